@@ -28,7 +28,7 @@ TABLES = ["verilog.md", "images.md"]
 SECOND_FILE = "AI"
 
 # Which letters have the rules of sources, and up to how many characters a source is asked what of it breaks one.
-SOURCE_RULES = "GZNWFLS"
+SOURCE_RULES = "GZNWFLSP"
 LONGEST = 100_000
 
 WIDEST = 120

@@ -60,7 +60,7 @@ class Memory:
         self.lock = random.choice(["queue"] if delayed else ["queue", "bypass", "rename"]) if locked else None
         self.size = min(random.choice([1, 2, 4, 4, 8]), 1 << self.address if self.lock == "rename" else 8)
         # Of a hot memory all threads use one word mostly.
-        self.hot = random.random() < 0.25
+        self.hot = random.random() < (0.5 if advisory else 0.25)
 
     def text(self):
         lock = f" lock {self.lock}({self.size})" if self.lock else ""

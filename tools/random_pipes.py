@@ -3,7 +3,7 @@
 A pipe has one to six stages in a line, one to three memories with any lock, and expressions of every
 operator of the language. Most of what is made keeps all rules; ask `pdl check`, and take another where it
 doesn't. No shift is by a constant of 2^32 or more. Of the forms that a program may take or not it may have two
-writes of a memory, and advisory memories; updates and nested forks are made by random_whole.py.
+writes of a memory, and an advisory memory; updates and nested forks are made by random_whole.py.
 """
 
 from pdl_model.forms import Forms
@@ -107,7 +107,7 @@ def guarded(guard, statements):
 
 
 class Pipe:
-    """A pipe that grows stage by stage. With advice it has an advisory memory `q`."""
+    """A pipe that grows stage by stage. With advice it has an advisory memory `q` now and then."""
 
     def __init__(self, random, forms):
         self.random, self.scope, self.forms = random, Scope(random), forms
@@ -116,6 +116,7 @@ class Pipe:
         self.parameters = [(f"n{k}", random.choice([4, 8, 16, 33])) for k in range(random.randint(1, 3))]
         self.call_stage = random.randint(0, self.stages - 1)
         self.uses = {}
+        self.has_advice = Forms.ADVISORY in forms and random.random() < 0.5
         for name, width in self.parameters:
             self.scope.add(name, width)
 
@@ -190,7 +191,7 @@ class Pipe:
         lines = [self.bind("t", self.random.choice([1, 4, 8, 16, 33, 64]))[1] for _ in range(self.random.randint(0, 2))]
         for memory in self.memories:
             lines += self.memory_lines(memory, stage)
-        if Forms.ADVISORY in self.forms and self.random.random() < 0.5:
+        if self.has_advice and self.random.random() < 0.7:
             lines += self.advise()
         if stage == self.call_stage:
             arguments = ", ".join(self.scope.expression(width, 2) for _, width in self.parameters)
@@ -199,7 +200,7 @@ class Pipe:
 
     def source(self):
         parameters = ", ".join(f"{name}: uint<{width}>" for name, width in self.parameters)
-        advice = ["q: uint<8>[4] advisory"] if Forms.ADVISORY in self.forms else []
+        advice = ["q: uint<8>[4] advisory"] if self.has_advice else []
         memories = ", ".join([*(memory.declaration() for memory in self.memories), *advice])
         body = "\n---\n".join("\n".join(self.stage_lines(stage)) for stage in range(self.stages))
         start = ", ".join(self.scope.literal(width) for _, width in self.parameters)
@@ -211,6 +212,8 @@ class Pipe:
             for address in range(1 << memory.address):
                 if self.random.random() < 0.7:
                     lines.append(f"{memory.name} {address} {self.random.getrandbits(memory.width):x}")
+        if self.has_advice:
+            lines += [f"q {address} {self.random.getrandbits(8):x}" for address in range(4)]
         return "\n".join(lines) + "\n"
 
 

@@ -12,7 +12,9 @@ each whole run what has to hold (pdl_model/sound.py and promises.py). A pipe tha
 `view` and `seq` print has to be what the model says, of a pipe that is refused the rule and the line; so each pipe is asked
 once more with a line left out, said twice, moved or changed. `whole` does the same with pipes of the whole base language and
 with delay files, and what `pdl wave` says of each port in each cycle has to be what the model says too. Of each pipe the
-writes that a memory receives by `run` have to be the first ones that it receives by `seq`.
+writes that a memory receives by `run` have to be the first ones that it receives by `seq`, and what `build` writes of it
+has to print by `sim` what it prints by `run`. A pipe with advisory memories is asked again from an image with other words
+in them, and of the two runs one writes each memory as the other begins.
 
 FORMS are the forms that the language has beside those that `pdl` takes, with commas between: two-writes, nested-forks,
 update, advisory; `all` is all of them, `none` none. The pipes have some of them. A pipe with updates or advice is held
@@ -207,16 +209,32 @@ def is_in_order(program, layout, cycles, delays, folder):
     return all(apart.get(memory, [])[: len(writes)] == writes for memory, writes in writes_of(ran).items())
 
 
-def differences(program, forms, texts, cycles, threads, folder):
-    """The commands whose answers differ, of a source, an image and delays; None where the source is refused, and rightly."""
-    source, image, delays = texts
-    (folder / "pipe.pdl").write_text(source)
+def other_image(layout, image, chance):
+    """The image with other words in the advisory memories."""
+    advisory = {memory.name: memory for memory in layout.pipe.memories if memory.advisory}
+    lines = [line for line in image.splitlines() if line.split(" ")[0] not in advisory]
+    lines += [f"{memory.name} {address} {chance.getrandbits(memory.width):x}"
+              for memory in advisory.values() for address in range(memory.depth)]
+    return "".join(f"{line}\n" for line in lines)
+
+
+def begin_alike(one, other):
+    """Whether of the writes of each memory in two runs one list begins with the other."""
+    return all(it == its for memory in one.keys() & other.keys() for it, its in zip(one[memory], other[memory]))
+
+
+def runs_as_built(program, cycles, delays, folder):
+    """Whether what `build` writes of the pipe prints by `sim` what the pipe prints by `run`."""
+    more = [str(cycles), *(["--delays", "pipe.delays"] if delays else [])]
+    (folder / "pipe.v").write_text("".join(f"{line}\n" for line in answer(program, ["build", "pipe.pdl"], folder)))
+    run, sim = (answer(program, [command, name, "pipe.img", *more], folder) for command, name in (("run", "pipe.pdl"), ("sim", "pipe.v")))
+    return run == sim
+
+
+def different(program, layout, texts, cycles, threads, folder):
+    """The commands and the ports whose answers differ, of a source that is accepted, an image and delays."""
+    _, image, delays = texts
     (folder / "pipe.img").write_text(image)
-    (folder / "pipe.delays").write_text(delays)
-    try:
-        layout = rules.checked(source, forms)
-    except Refused as refusal:
-        return None if answer(program, ["check", "pipe.pdl"], folder) == [str(refusal)] else ["check pipe.pdl"]
     found = [" ".join(command) for command, lines in due(layout, image, delays, cycles, threads)
              if answer(program, command, folder) != lines]
     if found:
@@ -224,7 +242,33 @@ def differences(program, forms, texts, cycles, threads, folder):
     words, rows = files.read_image(layout.pipe, image), files.read_delays(layout.pipe, delays)
     ports = [files.port_line(layout, it) for it in files.turns(layout, words, cycles, rows)]
     found = ["wave pipe.pdl"] if port_lines(program, cycles, delays, folder) != ports else []
+    found += [] if runs_as_built(program, cycles, delays, folder) else ["build and sim"]
     return found + ([] if is_in_order(program, layout, cycles, delays, folder) else ["run and seq"])
+
+
+def differences(program, forms, texts, cycles, threads, folder):
+    """The commands whose answers differ, of a source, an image and delays; None where the source is refused, and rightly.
+
+    Where the pipe has advisory memories it is asked from an image with other words in them too.
+    """
+    source, image, delays = texts
+    (folder / "pipe.pdl").write_text(source)
+    (folder / "pipe.delays").write_text(delays)
+    try:
+        layout = rules.checked(source, forms)
+    except Refused as refusal:
+        return None if answer(program, ["check", "pipe.pdl"], folder) == [str(refusal)] else ["check pipe.pdl"]
+    found = different(program, layout, texts, cycles, threads, folder)
+    if found or not any(memory.advisory for memory in layout.pipe.memories):
+        return found
+    option = ["--delays", "pipe.delays"] if delays else []
+    run = ["run", "pipe.pdl", "pipe.img", str(cycles), *option]
+    first = writes_of(answer(program, run, folder))
+    other = other_image(layout, image, random.Random(source))
+    found = different(program, layout, (source, other, delays), cycles, threads, folder)
+    if not found and not begin_alike(first, writes_of(answer(program, run, folder))):
+        found = ["other writes"]
+    return [f"{it} from other advice" for it in found]
 
 
 def spoiled(chance, source):

@@ -145,10 +145,10 @@ class RandomPipe:
         self.put(moment, memory.name, lambda: self.ask(memory), True)
 
     def plan_advice(self, memory):
-        """Reads and writes of an advisory memory, anywhere."""
-        for make in [self.look] * self.random.randint(1, 2) + [self.advise] * self.random.randint(1, 2):
-            moment = self.moment(Moment(0), Moment(self.segments - 1))
-            self.put(moment, memory.name, lambda make=make: make(memory), self.chance(0.5))
+        """Reads and writes of an advisory memory, anywhere; several of the writes in one stage, now and then."""
+        everywhere = [self.moment(Moment(0), Moment(self.segments - 1)) for _ in range(self.random.randint(2, 6))]
+        for make in [self.look] * self.random.randint(1, 2) + [self.advise] * self.random.randint(1, 4):
+            self.put(self.random.choice(everywhere), memory.name, lambda make=make: make(memory), self.chance(0.5))
 
     def plan_locked(self, memory):
         """Reservations, blocks, reads, writes and releases of a locked memory, in an order that the rules allow."""
@@ -273,11 +273,13 @@ class RandomPipe:
         return [line, f"{self.define('x', memory.width, is_advice=memory.advisory)} = {memory.name}[{address}];"]
 
     def advise(self, memory):
+        """A write, whose address and value may hang on advice, and which may stand under a guard."""
         address, line = self.advised_address(memory) if self.chance(0.3) else self.address(memory)
+        guard, lines = self.new_guard() if self.chance(0.3) else (None, [])
         self.see(with_advice=self.chance(0.5))
         value = self.scope.expression(memory.width, self.random.randint(0, 2))
         self.see()
-        return [line, f"{memory.name}[{address}] <- {value};"]
+        return [line, *lines, *self.under(guard, lambda: [f"{memory.name}[{address}] <- {value};"])]
 
     def advised_address(self, memory):
         """A variable for an address that may hang on advice, and the line that binds it."""

@@ -51,13 +51,16 @@ VERSIONS = (
     Version("one stage", "rv32i_single.pdl", 1),
     Version("five stages", "rv32i.pdl", 3),
     Version("with a guess", "rv32i_guess.pdl", 3),
+    Version("with a table of counters", "rv32i_counters.pdl", 3),
     Version("with delayed memories", "rv32i_delayed.pdl", 3),
     Version("the same, slow", "rv32i_delayed.pdl", 5, slow=True),
     Version("with a second guess", "rv32i_update.pdl", 3),
     Version("the same, slow", "rv32i_update.pdl", 5, slow=True),
+    Version("with a branch target buffer", "rv32i_btb.pdl", 3),
+    Version("the same, slow", "rv32i_btb.pdl", 5, slow=True),
     Version("with a multiplier in an inner branch", "rv32im.pdl", 4),
 )
-SINGLE, FIVE, GUESS, DELAYED, LATE, UPDATED, LATER, MULTIPLIES = VERSIONS
+SINGLE, FIVE, GUESS, COUNTERS, DELAYED, LATE, UPDATED, LATER, BUFFER, BUFFERED_LATE, MULTIPLIES = VERSIONS
 # It begins at another address, and an ECALL is no end there: it runs programs of its own.
 TRAPS = Version("with traps", "rv32i_traps.pdl", 6)
 
@@ -244,9 +247,10 @@ class Figures:
         rows = ["| what is guessed | the line | instructions a cycle |", "|---|---|---|"]
         for what, line in GUESSES:
             rows.append(f"| {what} | `{line}` | {self.per_cycle(GUESS.with_change(GUESS_LINE, '    ' + line))} |")
+        rows.append(f"| what the branch did before, by a table of counters | `{COUNTERS.source}` | {self.per_cycle(COUNTERS)} |")
         for what, line, change in (
-            ("the same, verified a stage later", "`verify(next, ..);` in memory", VERIFY_LATER),
-            ("the same, and none reserves before it is right", "`spec_barrier();` in decode", BARRIER),
+            ("a branch backward is taken, verified a stage later", "`verify(next, ..);` in memory", VERIFY_LATER),
+            ("a branch backward is taken, and none reserves before it is right", "`spec_barrier();` in decode", BARRIER),
         ):
             rows.append(f"| {what} | {line} | {self.per_cycle(GUESS.with_change(*change))} |")
         return rows

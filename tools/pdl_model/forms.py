@@ -19,8 +19,8 @@ class Forms(enum.Flag):
 
 
 ALL = Forms.TWO_WRITES | Forms.NESTED_FORKS | Forms.UPDATE | Forms.ADVISORY
-# Those that the program takes today. The others are refused as words that there aren't.
-TAKEN = Forms.TWO_WRITES | Forms.NESTED_FORKS | Forms.UPDATE
+# Those that the program takes today. Any others are refused as words that there aren't.
+TAKEN = ALL
 
 
 def word_of(form):

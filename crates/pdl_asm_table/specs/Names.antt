@@ -6,9 +6,9 @@ use Rattle.pdl_image.specs.Images.{is_name}
 -- the keywords of the pipeline language that have a name's form
 abbrev pub keywords : List (List ℕ)
 keywords =
-    codes "acquire" ∷ codes "block" ∷ codes "bypass" ∷ codes "call" ∷ codes "cat" ∷ codes "comb" ∷ codes "delayed" ∷ codes "else" ∷ codes "if"
+    codes "acquire" ∷ codes "advisory" ∷ codes "block" ∷ codes "bypass" ∷ codes "call" ∷ codes "cat" ∷ codes "comb" ∷ codes "delayed" ∷ codes "else" ∷ codes "if"
     ∷ codes "lock" ∷ codes "lts" ∷ codes "pipe" ∷ codes "queue" ∷ codes "release" ∷ codes "rename" ∷ codes "reserve" ∷ codes "sext"
-    ∷ codes "spec_barrier" ∷ codes "spec_call" ∷ codes "spec_check" ∷ codes "start" ∷ codes "uint" ∷ codes "verify" ∷ codes "zext" ∷ []
+    ∷ codes "spec_barrier" ∷ codes "spec_call" ∷ codes "spec_check" ∷ codes "start" ∷ codes "uint" ∷ codes "update" ∷ codes "verify" ∷ codes "zext" ∷ []
 
 -- a name is one of these keywords
 abbrev pub is_keyword : List ℕ → Bool

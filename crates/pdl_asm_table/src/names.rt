@@ -53,6 +53,7 @@ fn is_keyword(text: &str) -> bool
         text,
         &[
             "acquire",
+            "advisory",
             "block",
             "bypass",
             "call",
@@ -74,6 +75,7 @@ fn is_keyword(text: &str) -> bool
             "spec_check",
             "start",
             "uint",
+            "update",
             "verify",
             "zext",
         ],

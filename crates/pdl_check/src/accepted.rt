@@ -4,7 +4,6 @@ ghost use Rattle.std.specs.List.{list_any};
 ghost use Rattle.pdl_syntax_tree.specs.View.{pipe_view};
 ghost use Rattle.pdl_rules.specs.Places.{places, guards as guards_in};
 ghost use Rattle.pdl_rules.specs.Refusal.{KeepsRules};
-ghost use Rattle.pdl_rules.specs.Unbuilt.{IsBuilt};
 ghost use Rattle.pdl_rules.specs.Speculation.{is_update};
 ghost use Rattle.pdl_locks.specs.Plan.{plan_of};
 ghost use Rattle.pdl_spec.specs.Plan.{spec_plan};
@@ -27,7 +26,7 @@ use pdl_stages::StageGraph;
 use pdl_syntax_tree::Pipe;
 use pdl_types::TypedPipe;
 
-/// A pipe that is read from a text, breaks no rule and has no form without circuit, with the widths of its variables, its guards in text order, its memories in declared order, the stages of its locks, verifies and updates, its flat form, and its stages.
+/// A pipe that is read from a text and breaks no rule, with the widths of its variables, its guards in text order, its memories in declared order, the stages of its locks, verifies and updates, its flat form, and its stages.
 pub struct Accepted {
     pub typed: TypedPipe,
     pub guards: Guards,
@@ -38,7 +37,6 @@ pub struct Accepted {
     pub ghost source: { IsTrue (is_source (pipe_view typed.pipe)) },
     pub ghost letters: { IsTrue (is_named (pipe_view typed.pipe)) },
     pub ghost kept: { KeepsRules (pipe_view typed.pipe) },
-    pub ghost built: { IsBuilt (pipe_view typed.pipe) },
     pub ghost guarded: { guards ≡ guards_in (places (pipe_view typed.pipe)) },
     pub ghost told: { mems ≡ infos_of (pipe_view typed.pipe).mems },
     pub ghost planned: { plans.locks ≡ plan_of (pipe_view typed.pipe) },

@@ -9,8 +9,7 @@ use Rattle.pdl_semantics.specs.Lines.{columns}
 use Rattle.pdl_rules.specs.Memories.{infos_of}
 use Rattle.pdl_rules.specs.Limits.{is_too_long}
 use Rattle.pdl_rules.specs.Refusal.{KeepsRules, limits, after_limits, first_broken}
-use Rattle.pdl_rules.specs.Unbuilt as rules
-use Rattle.pdl_rules.proofs.Unbroken.{keeps_accepted, built_accepted}
+use Rattle.pdl_rules.proofs.Unbroken.{keeps_unbroken}
 use Rattle.pdl_source.proofs.Texts.{source_of, named_of}
 use Rattle.pdl_image.specs.Images.{IsImage, image}
 use Rattle.pdl_net.specs.declared.Netlist.{Netlist}
@@ -68,21 +67,17 @@ unrefused false p e = e
 
 -- an accepted source keeps the rules
 pub keeps_rules : (b : List ℕ) (p : Pipe) → IsAccepted b p → KeepsRules p
-keeps_rules b p accepted = keeps_accepted p (unrefused (is_too_long b) p accepted.kept)
-
--- no form of an accepted source lacks a circuit
-pub has_circuits : (b : List ℕ) (p : Pipe) → IsAccepted b p → rules.IsBuilt p
-has_circuits b p accepted = built_accepted p (unrefused (is_too_long b) p accepted.kept)
+keeps_rules b p accepted = keeps_unbroken p (unrefused (is_too_long b) p accepted.kept)
 
 module _ (b : List ℕ) (p : Pipe) (n : Netlist) (accepted : IsAccepted b p) (follows : Follows p n) where
   -- from each image, with each schedule of replies, the netlist writes what the threads write one after another
   pub writes : RefinesThreads p n
-  writes = refines p (keeps_rules b p accepted) (has_circuits b p accepted) (source_of b p accepted.text) (named_of b p accepted.text) n follows
+  writes = refines p (keeps_rules b p accepted) (source_of b p accepted.text) (named_of b p accepted.text) n follows
 
   -- each run of the netlist from an image prints the machine's lines and keeps the promises of refinement and of progress
   pub promised : (start : List (List ℕ)) (schedule : List ℕ) → IsImage n.mems start → IsRunOf p n start schedule
   promised start schedule is_image =
-      runs p (keeps_rules b p accepted) (has_circuits b p accepted) (source_of b p accepted.text) (named_of b p accepted.text) n follows start schedule is_image
+      runs p (keeps_rules b p accepted) (source_of b p accepted.text) (named_of b p accepted.text) n follows start schedule is_image
 
   -- an image file gives the pipe's memories what it gives the netlist's
   pub images : (file : List ℕ) → image (infos_of p.mems) file ≡ taken_in_order (flat p) (image n.mems file)

@@ -31,7 +31,7 @@ use Rattle.pdl_netrun_lines.proofs.RunSteps.{left_length}
 use Rattle.pdl_cli_commands.specs.Replies.{all_answered}
 use Rattle.pdl_cli_commands.specs.Commands.{IsAccepted, IsSummary}
 use Rattle.pdl_cli_commands.specs.Summaries.{words_in, image_of, line_of, end_of}
-use Rattle.pdl_cli_commands.proofs.AcceptedNetlists.{none_given, keeps_rules, has_circuits}
+use Rattle.pdl_cli_commands.proofs.AcceptedNetlists.{none_given, keeps_rules}
 
 -- ---- its image
 
@@ -87,7 +87,7 @@ is_summary p n words start cycles counts line follows filled e said source accep
     let ordered : image_of words (infos_of p.mems) ≡ in_order (flat p) start =
     sym (told_in_order (flat p) p.mems refl (words_in words))
     ∙ ap (λ ms. in_order (flat p) (image_of words ms)) (sym follows.mems) ∙ ap (in_order (flat p)) (sym filled) in
-    let turns = shows_turns p kept (has_circuits source p accepted) (source_of source p accepted.text) (named_of source p accepted.text) n follows in
+    let turns = shows_turns p kept (source_of source p accepted.text) (named_of source p accepted.text) n follows in
     record {
       pipe = p;
       accepted = accepted;

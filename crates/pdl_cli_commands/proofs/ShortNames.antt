@@ -9,7 +9,7 @@ use Rattle.pdl_syntax_tokens.specs.declared.token.Mark.{Mark}
 use Rattle.pdl_syntax_tokens.specs.declared.token.TokenKind.{TokenKind}
 use Rattle.pdl_syntax_tokens.specs.declared.token.TokenKind.TheVariants as kind
 use Rattle.pdl_syntax_tokens.specs.Tokens.{Token, Row, Piece, Spelling, tokens, tokens_from, placed_token, piece_at, word_at, keyword_or_name, spelling_of, keywords, number_or_literal, mark_or_bad, blank_of, is_word, is_blank, is_lower, is_digit, symbols, spelling_at, line_after}
-use Rattle.pdl_syntax_grammar.specs.Grammar.{Listed, last, further, Memory, memory, Parameter, parameter, Lock, unlocked, locked, Text, text}
+use Rattle.pdl_syntax_grammar.specs.Grammar.{Listed, last, further, Memory, memory, advisory, Parameter, parameter, Lock, unlocked, locked, Text, text}
 use Rattle.pdl_syntax_grammar.specs.Text.{IsText}
 use Rattle.pdl_syntax_tokens.proofs.OtherKinds.{same_kind, number_no_name, literal_no_name}
 
@@ -94,6 +94,7 @@ lock_rest l a r locked t = t.1.1.1.1.1
 
 memory_short : (m : Mem) (a r : Row) → Memory m a r → AreShort a → (length m.name.name ≤ 32) × AreShort r
 memory_short m a r (memory d k) t = (t.0 refl, lock_rest _ _ _ k t.1.1.1.1.1.1.1.1.1.1)
+memory_short m a r advisory t = (t.0 refl, t.1.1.1.1.1.1.1.1.1.1)
 
 memories_short : (c : Mark) (ms : List Mem) (a r : Row) → Listed Memory c ms a r → AreShort a → HaveShortNames ms
 memories_short c ms a r (last k) t = ((memory_short _ _ _ k t).0, tt)

@@ -203,7 +203,7 @@ pub record IsOutput (holds : Option Held) (source image' : List ℕ) (cycles : �
   pub start : List (List ℕ)
   pub started : AreWordsOf pipe netlist words start
   pub printed : text ≡ run_text netlist start schedule
-  -- each memory's commits have the sequential writes of the threads that ended, and are a prefix of the sequential writes; in each cycle that is no wait the oldest thread moves; and so enough threads end; and the source without its updates commits the same, sooner or later
+  -- each memory's commits have the sequential writes of the threads that ended, and are a prefix of the sequential writes; in each cycle that is no wait the oldest thread moves; and so enough threads end; and the source without its updates commits the same, sooner or later, as does the source from an image that differs in advisory memories alone
   pub promised : IsRunOf pipe netlist start schedule
 
 -- the text that `build` writes where all is well: a netlist that follows the pipe, as text that reads as it

@@ -8,16 +8,15 @@ use Rattle.pdl_semantics.specs.Flat
 use Rattle.pdl_semantics.specs.Flat.{is_delayed, list_all, Op, Stmt, Pipe}
 use Rattle.pdl_semantics.specs.Forms.{on_delayed_read}
 use Rattle.pdl_semantics.specs.Stages.{mem_at, plain_mem}
-use Rattle.pdl_semantics.specs.Flatten.{Var, flat, flat_expr, mem_of, var_of, mems_of, params_of, at_position, is_advisory_mem, is_advised, read_op, bind_op, write_op}
+use Rattle.pdl_semantics.specs.Flatten.{Var, flat, flat_expr, mem_of, var_of, mems_of, params_of, at_position, is_advisory_mem, is_advised, read_op, write_op}
 use Rattle.pdl_semantics.specs.Flatten
 use Rattle.pdl_semantics.proofs.Facts.{all_vars}
 use Rattle.pdl_kit.specs.declared.rule.Rule.TheVariants.{F4}
 use Rattle.pdl_rules.specs.Forks.{is_delayed_memory, is_wrong_read}
 use Rattle.pdl_rules.specs.Refusal.{KeepsRules}
-use Rattle.pdl_rules.specs.Unbuilt.{IsBuilt}
 use Rattle.pdl_theory_facts.specs.Facts.{Sound}
-use Rattle.pdl_source_stages.proofs.Sites.{Site, All, sites_of, place_of, owns, stmts_are}
-use Rattle.pdl_source_stages.proofs.SiteFacts.{Fine, AtSite, op_of, rows_of, own_is, all_fine, each_stmt, each_fine, either_read, either_bind, either_write}
+use Rattle.pdl_source_stages.proofs.Sites.{Site, sites_of, place_of, owns, stmts_are}
+use Rattle.pdl_source_stages.proofs.SiteFacts.{op_of, rows_of, own_is, each_fine, either_read, either_bind, either_write}
 use Rattle.pdl_source_stages.proofs.Facts.{stage_facts}
 use Rattle.pdl_source_paths.specs.Source.{is_source, is_named}
 use Rattle.pdl_source_paths.proofs.Growth.{Grows, vars_past, past_grown, grows_all}
@@ -26,7 +25,7 @@ use Rattle.pdl_machine_lockuse.proofs.InUse.{leads_sound}
 use Rattle.pdl_law_parts.specs.Rows.{HasRow, HaveRows}
 use Rattle.pdl_machine_inflight.specs.Readings.{ReadsAtOnce, Reads}
 use Rattle.pdl_law.specs.StandingStates.{IsLawful}
-use Rattle.pdl_law.proofs.BuiltForms.{ArePlain, none_advisory, expr_plain, sites_plain}
+use Rattle.pdl_law.proofs.AdviceFacts.{unlocked_there, apart_source}
 use Rattle.pdl_law.proofs.DelayedReads.{RisesIn, rises_from, reading_has, risen, reads_apart, each_reading}
 use Rattle.pdl_word.specs.Each.{Each}
 use Rattle.pdl_word.proofs.Each.{each_weaker}
@@ -91,34 +90,32 @@ kinds p rules =
 
 -- ---- ROWS
 
-row_of : (p : tree.Pipe) (s : tree.Stmt) (vs : List Var) → is_wrong_read p.mems s ≡ false
-    → ((n : List ℕ) → is_advisory_mem p.mems n ≡ false) → ArePlain vs → OnSome (HasRow (flat p)) (op_of p.mems vs s)
-row_of p (CombRead sp x from) vs e none plain =
-    subst (λ b. HasRow (flat p) (read_op b (length vs) (mem_of p.mems from.mem.name) (var_of vs from.address.name))) (sym (none from.mem.name))
-    (comb_there p.mems from.mem.name e)
-row_of p (Bind sp x a) vs e none plain = subst (λ b. HasRow (flat p) (bind_op b (length vs) (flat_expr vs a))) (sym (expr_plain vs a plain)) tt
-row_of p (Write sp to a) vs e none plain =
-    subst (λ b. HasRow (flat p) (write_op b (mem_of p.mems to.mem.name) (var_of vs to.address.name) (flat_expr vs a))) (sym (none to.mem.name)) tt
-row_of p (Reserve sp at R) vs e none plain = tt
-row_of p (Reserve sp at W) vs e none plain = tt
-row_of p (If sp (Variable x) when otherwise) vs e none plain = tt
-row_of p (If sp c when otherwise) vs e none plain = tt
-row_of p (Separator sp) vs e none plain = tt
-row_of p _ vs e none plain = tt
+row_of : (p : tree.Pipe) → KeepsRules p → (s : tree.Stmt) (vs : List Var) → is_wrong_read p.mems s ≡ false → OnSome (HasRow (flat p)) (op_of p.mems vs s)
+row_of p rules (CombRead sp x from) vs e = at (is_advisory_mem p.mems from.mem.name) refl
+  where
+    at : (b : Bool) → is_advisory_mem p.mems from.mem.name ≡ b
+        → HasRow (flat p) (read_op b (length vs) (mem_of p.mems from.mem.name) (var_of vs from.address.name))
+    at true i = unlocked_there p rules from.mem.name i
+    at false i = comb_there p.mems from.mem.name e
+row_of p rules (Bind sp x a) vs e = either_bind (HasRow (flat p)) (is_advised vs a) (length vs) (flat_expr vs a) tt tt
+row_of p rules (Write sp to a) vs e = at (is_advisory_mem p.mems to.mem.name) refl
+  where
+    at : (b : Bool) → is_advisory_mem p.mems to.mem.name ≡ b
+        → HasRow (flat p) (write_op b (mem_of p.mems to.mem.name) (var_of vs to.address.name) (flat_expr vs a))
+    at true i = unlocked_there p rules to.mem.name i
+    at false i = tt
+row_of p rules (Reserve sp at R) vs e = tt
+row_of p rules (Reserve sp at W) vs e = tt
+row_of p rules (If sp (Variable x) when otherwise) vs e = tt
+row_of p rules (If sp c when otherwise) vs e = tt
+row_of p rules (Separator sp) vs e = tt
+row_of p rules _ vs e = tt
 
-rows_at : (p : tree.Pipe) → KeepsRules p → IsBuilt p → (ts : List Site) → All (Fine p) ts → All (λ t. ArePlain t.walk.vars) ts
-    → All (AtSite (λ (x : Stmt). HasRow (flat p) x.op) p.mems) ts
-rows_at p rules built [] fine plain = tt
-rows_at p rules built (t ∷ ts) fine plain = (
-  λ op e. subst (OnSome (HasRow (flat p))) e
-      (row_of p t.stmt t.walk.vars (rules F4 t.front (place_of t) fine.0.later fine.0.whole) (none_advisory p built) plain.0),
-  rows_at p rules built ts fine.1 plain.1,
-)
-
--- a row stands for each statement of a pipe without forms that lack a circuit
-have_rows : (p : tree.Pipe) → KeepsRules p → IsBuilt p → HaveRows (flat p)
-have_rows p rules built =
-    each_stmt p (λ (x : Stmt). HasRow (flat p) x.op) (rows_at p rules built (sites_of p) (all_fine p rules) (sites_plain p built))
+-- a row stands for each statement of a pipe that keeps the rules
+have_rows : (p : tree.Pipe) → KeepsRules p → HaveRows (flat p)
+have_rows p rules =
+    each_fine p rules (λ (x : Stmt). HasRow (flat p) x.op)
+    (λ t h op e. subst (OnSome (HasRow (flat p))) e (row_of p rules t.stmt t.walk.vars (rules F4 t.front (place_of t) h.later h.whole)))
 
 -- ---- VARIABLES
 
@@ -201,9 +198,9 @@ reads_source p rules sound = record {
   at_once = each_weaker (λ (x : Stmt). IsOfKind (flat p) x.op) (λ (x : Stmt). ReadsAtOnce (flat p) x.op) (λ x h. h.0) (flat p).stmts (kinds p rules);
 }
 
--- a source that breaks no rule and has no form without circuit has what its netlist hangs on
-pub lawful_source : (p : tree.Pipe) → KeepsRules p → IsBuilt p → is_source p ≡ true → is_named p ≡ true → IsLawful (flat p)
-lawful_source p rules built source named =
+-- a source that breaks no rule has what its netlist hangs on
+pub lawful_source : (p : tree.Pipe) → KeepsRules p → is_source p ≡ true → is_named p ≡ true → IsLawful (flat p)
+lawful_source p rules source named =
     let sound = of_source p rules source named in
     record {
       sound = sound;
@@ -211,6 +208,7 @@ lawful_source p rules built source named =
       some = (let h = sound.graph.some_stage in omega (arith, h));
       updates = (stage_facts p rules).updates;
       reads = reads_source p rules sound;
-      rows = have_rows p rules built;
+      rows = have_rows p rules;
+      apart = apart_source p rules named;
       inside = reading_has (λ n q. q.stage < length (flat p).stages) (flat p).stmts (each_low (length (flat p).stages) (flat p).stmts sound.inside);
     }

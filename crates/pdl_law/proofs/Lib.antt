@@ -1,6 +1,7 @@
 pub mod OrderSteps
 pub mod WaitingPorts
 pub mod WaitingStep
+pub mod AdvisedAnswers
 pub mod PortSides
 pub mod PortsNext
 pub mod Removals
@@ -16,7 +17,7 @@ pub mod WholeOutputs
 pub mod NextStores
 pub mod WholeRuns
 pub mod DelayedReads
-mod BuiltForms
+mod AdviceFacts
 pub mod FromRules
 mod OwnPending
 pub mod CycleFacts

@@ -5,18 +5,20 @@ use Rattle.std.proofs.lemmas.Bool.{eqb-true, eqb-false, cases_lt}
 use Rattle.std.proofs.lemmas.List.{get_or-set_same, get_or-set_other, get_or_past, length-set, length-take}
 use Rattle.std.proofs.lemmas.Nat.{pow_pos}
 use Rattle.pdl_kit.specs.declared.mem_info.MemInfo.{MemInfo}
-use Rattle.pdl_semantics.specs.Flat.{Arrays, Mem, Pipe, is_delayed, with_word}
+use Rattle.pdl_semantics.specs.Tree.{MemKind, Comb, Delayed, Advisory}
+use Rattle.pdl_semantics.specs.Flat.{Arrays, Mem, Pipe, is_delayed, is_advisory, with_word}
 use Rattle.pdl_semantics.specs.Stages.{plain_mem, mem_at}
 use Rattle.pdl_semantics.specs.Locks.{commit_value}
 use Rattle.pdl_semantics.specs.Machine as machine
 use Rattle.pdl_semantics.specs.Machine.{Pending, Request, NoRequest, Owned, Orphan, is_answered, request_of}
-use Rattle.pdl_semantics.specs.Cycle.{cycle, squasher, all_releases, list_two, taken_out, port_writes, with_commit, with_all_advised, asked_in, request_next, request_left, is_outstanding, waits_from, for_mems}
+use Rattle.pdl_semantics.specs.Cycle.{cycle, squasher, all_releases, list_two, taken_out, port_writes, with_commit, asked_in, request_next, request_left, is_outstanding, waits_from, for_mems}
 use Rattle.pdl_theory_simulation.proofs.PerMemory.{at_mem}
 use Rattle.pdl_net.specs.Circuit.{Circuit, State}
 use Rattle.pdl_net.specs.Run.{Store, reply, committed_words, outstanding, next_stores, commit_of, commit2_of, is_waiting, some_waits}
 use Rattle.pdl_net.specs.Run as net_run
 use Rattle.pdl_net.specs.Cycle.{output_values}
 use Rattle.pdl_machine_facts.specs.Slots.{moving}
+use Rattle.pdl_machine_facts.proofs.PlainWords.{plain_next}
 use Rattle.pdl_machine_facts.proofs.Stagewise.{next_is}
 use Rattle.pdl_machine_inflight.specs.Readings.{reading}
 use Rattle.pdl_law.specs.StandingStates.{IsLawful, IsKnown}
@@ -155,9 +157,7 @@ committed_is words (e ∷ []) l = refl
 committed_is words (e ∷ f ∷ []) l = refl
 committed_is words (e ∷ f ∷ g ∷ es) l = absurd (omega (arith, l))
 
--- in a cycle in which no advisory memory is written
-module _ (p : Pipe) (lawful : IsLawful p) (st : machine.State) (bits : List Bool) (known : IsKnown p st bits)
-    (calm : (arrays : Arrays) → with_all_advised (moving p st bits) arrays ≡ arrays) where
+module _ (p : Pipe) (lawful : IsLawful p) (st : machine.State) (bits : List Bool) (known : IsKnown p st bits) where
   -- the request after the cycle
   request_after : (m : ℕ) → m < length p.mems
       → address_asked (request_of (cycle p st bits) m)
@@ -190,7 +190,7 @@ module _ (p : Pipe) (lawful : IsLawful p) (st : machine.State) (bits : List Bool
   outstanding_is m old false e None = e
 
   -- its words and its request, by what it commits and is asked
-  module _ (m : ℕ) (l : m < length p.mems) (y : Store) (h : IsStore st m (mem_at p m) y)
+  module _ (m : ℕ) (l : m < length p.mems) (late : is_delayed (mem_at p m).kind ≡ true) (y : Store) (h : IsStore st m (mem_at p m) y)
       (wide : AreFit (mem_at p m) (taken_out st (moving p st bits) m))
       (low : (a : ℕ) → asked_in (moving p st bits) m ≡ Some a → a < (mem_at p m).depth) where
     -- a delayed memory's words with its commits, and its request with what it is asked, stand for the machine's next state
@@ -213,14 +213,18 @@ module _ (p : Pipe) (lawful : IsLawful p) (st : machine.State) (bits : List Bool
           long = w.long;
           bounded = w.bounded;
           same = λ a i. w.same a i
-              ∙ sym (ap (λ (f : ℕ → ℕ). f a) (known.by.arrays m l)
-              ∙ ap (λ (x : Arrays). x m a) (calm (with_commit st.arrays m (taken_out st (moving p st bits) m))));
+              ∙ sym (ap (λ (f : ℕ → ℕ). f a) (plain_next p lawful.sound.advice st bits known.by m l (unadvised (mem_at p m).kind late)));
           request = outstanding_is m y.request (is_answered p bits m) h.request (asked_in (moving p st bits) m) ∙ sym (request_after m l);
           reach = λ a e. at (asked_in (moving p st bits) m) refl (is_answered p bits m) a e;
         }
       where
         some_is : {u v : ℕ} → Some u ≡ Some v → u ≡ v
         some_is z = cc z
+
+        unadvised : (k : MemKind) → is_delayed k ≡ true → is_advisory k ≡ false
+        unadvised Comb e = refl
+        unadvised Delayed e = refl
+        unadvised Advisory e = absurd (cc e)
 
         at : (o : Option ℕ) → asked_in (moving p st bits) m ≡ o → (b : Bool) (a : ℕ) → outstanding y.request b o ≡ Some a → a < (mem_at p m).depth
         at (Some u) e b a f = low a (e ∙ f)
@@ -269,7 +273,7 @@ module _ (p : Pipe) (lawful : IsLawful p) (st : machine.State) (bits : List Bool
           let n = same_name u in
           let q = subst (StepsTo c s names) (let z : m + 0 ≡ m = omega arith in z) (k 0 (omega arith) d) in
           let mem : mem_at p m ≡ x = ap (mem_at p) (let z : m ≡ m + 0 = omega arith in z) ∙ f 0 (omega arith) in
-          let mine = store_next m (omega (arith, e)) y (subst (λ z. IsStore st m z y) (sym mem) w.0) q.wide q.low in
+          let mine = store_next m (omega (arith, e)) (ap (λ (z : Mem). is_delayed z.kind) mem ∙ d) y (subst (λ z. IsStore st m z y) (sym mem) w.0) q.wide q.low in
           let told : record {
             words =
                 committed_words (committed_words y.words (put_in (port_writes (taken_out st (moving p st bits) m))))

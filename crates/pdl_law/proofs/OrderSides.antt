@@ -24,10 +24,11 @@ use Rattle.pdl_machine_facts.specs.Cycle.{IsByStages}
 use Rattle.pdl_machine_facts.proofs.StagewisePorts.{at_stage}
 use Rattle.pdl_law_parts.specs.Lives.{forks_by}
 use Rattle.pdl_law_parts.specs.Walk.{Locks, Walk, one, zero_bit, both}
+use Rattle.pdl_law_parts.specs.Advice.{IsAdvisedApart}
 use Rattle.pdl_law_parts.specs.Views.{View, Gates, way_on}
 use Rattle.pdl_law_parts.specs.Stands.{IsSo, IsSeen}
 use Rattle.pdl_law_parts.proofs.Signals.{mux_at, mux_by, one_is, zero_is}
-use Rattle.pdl_law_parts.proofs.Moves.{ready_of, lives_fork}
+use Rattle.pdl_law_parts.proofs.Moves.{ready_of, fork_value}
 use Rattle.pdl_machine_inflight.specs.InFlight.{InFlight}
 use Rattle.pdl_law_sides.specs.Sides.{Sides, OrderNets, into_first, into_second, merging, into_merge, leaves_fork, emptied_by, order_step, branch_turn, merge_turn, turn}
 use Rattle.pdl_law_sides.specs.HasSides.{HasOrder, HasSides}
@@ -73,7 +74,7 @@ module _ (p : Pipe) (c : Circuit) (vs : ℕ → View) (gates : Gates) (moves : �
 
   -- ---- A CYCLE
 
-  module _ (s : State) (st : machine.State) (bits : List Bool) (by : IsByStages p st bits)
+  module _ (s : State) (st : machine.State) (bits : List Bool) (by : IsByStages p st bits) (apart : IsAdvisedApart p)
       (seen : (j : ℕ) → j < length p.stages → IsSeen p vs moves s st bits j)
       (emptied : (emptied_by p f (squash_stages p.stmts) sides.squash).value s ≡ bit (merges_by p f (squash_stage (moving p st bits)))) where
     so_at : (k : ℕ) (t : Thread) → k < length p.stages → here p st bits k ≡ Some t → stage_moves p st bits k ≡ true → IsSo p k s (vs k).ended (deeds p st k t)
@@ -81,7 +82,7 @@ module _ (p : Pipe) (c : Circuit) (vs : ℕ → View) (gates : Gates) (moves : �
 
     agrees_at : (k : ℕ) (t : Thread) → k < length p.stages → here p st bits k ≡ Some t → stage_moves p st bits k ≡ true
         → Agrees s (vs k).ended (stage_at p k).next (deeds p st k t).env
-    agrees_at k t l h g x e = (so_at k t l h g).env x (lives_fork p k x l e)
+    agrees_at k t l h g = fork_value p apart k s (vs k).ended (deeds p st k t) l (so_at k t l h g)
 
     nobody : (k : ℕ) → here p st bits k ≡ None → stage_moves p st bits k ≡ true → ⊥
     nobody k h g = false≢true (sym (ap (slot_moves p st bits k) h) ∙ g)
@@ -286,19 +287,19 @@ module _ (p : Pipe) (ls : Locks) (c : Circuit) (vs : ℕ → View) (gates : Gate
   orders_first image s regs f q low m = order_starts p c vs gates moves sides (has.order_owns f) f low (has.orders f q low m) image s regs
 
   -- after a cycle whose stages and squash are as the machine's, the orders stand for the lists of the next state
-  pub orders_next : Sound p → LeadsOn p → (s t : State) (st : machine.State) (bits : List Bool) → IsByStages p st bits
+  pub orders_next : Sound p → LeadsOn p → (s t : State) (st : machine.State) (bits : List Bool) → IsByStages p st bits → IsAdvisedApart p
       → ((j : ℕ) → j < length p.stages → IsSeen p vs moves s st bits j)
       → ((f : ℕ) → (emptied_by p f (squash_stages p.stmts) sides.squash).value s ≡ bit (merges_by p f (squash_stage (moving p st bits))))
       → InFlight p st → InFlight p (cycle p st bits)
       → OrdersStand p sides s st → t.regs ≡ next_regs c s
       → t.arrays ≡ next_arrays c s → OrdersStand p sides t (cycle p st bits)
-  orders_next sound leads s t st bits by seen emptied flight flight' stands regs arrays f q low m =
+  orders_next sound leads s t st bits by apart seen emptied flight flight' stands regs arrays f q low m =
       order_kept p c vs gates moves sides (has.order_owns f) f low
-      (has.orders f q low m) s st bits by seen (emptied f) sound leads flight.count flight' (stands f q low m) t regs arrays
+      (has.orders f q low m) s st bits by apart seen (emptied f) sound leads flight.count flight' (stands f q low m) t regs arrays
 
   -- whether it is a thread's turn at a merge
   pub merges_told : Sound p → (s : State) (st : machine.State) → OrdersStand p sides s st → (k : ℕ) (d : Deeds)
-      → k < length p.stages → IsSo p k s (vs k).ended d
+      → IsAdvisedApart p → k < length p.stages → IsSo p k s (vs k).ended d
       → (way_on (stage_at p k).next (turn p sides k) (vs k).ended).value s ≡ bit (merges_well p st k (next_stage p k d))
-  merges_told sound s st stands k d l so =
-      merges_is p sound c vs gates moves sides has.order_owns has.orders s st stands k (vs k).ended d l (λ x e. so.env x (lives_fork p k x l e))
+  merges_told sound s st stands k d apart l so =
+      merges_is p sound c vs gates moves sides has.order_owns has.orders s st stands k (vs k).ended d l (fork_value p apart k s (vs k).ended d l so)

@@ -20,11 +20,12 @@ use Rattle.pdl_port.specs.Laws.{Drives}
 use Rattle.pdl_law_parts.specs.Lives.{forks_by}
 use Rattle.pdl_law_parts.specs.Walk as walk
 use Rattle.pdl_law_parts.specs.Walk.{Walk, one, zero_bit, both, is_on}
+use Rattle.pdl_law_parts.specs.Advice.{IsAdvisedApart}
 use Rattle.pdl_law_parts.specs.Views.{View, Gates}
 use Rattle.pdl_law_parts.specs.Stands.{IsSeen, asked_in}
 use Rattle.pdl_law_parts.proofs.Signals.{mux_by, both_at, one_is, zero_is}
 use Rattle.pdl_law_parts.proofs.LockPorts.{both_is, moves_or_not}
-use Rattle.pdl_law_parts.proofs.Moves.{lives_fork, ready_of}
+use Rattle.pdl_law_parts.proofs.Moves.{fork_value, ready_of}
 use Rattle.pdl_machine_inflight.specs.Readings.{Reading, reading, places_of, places, place_at, place_to, Reads}
 use Rattle.pdl_machine_inflight.specs.InFlight.{InFlight}
 use Rattle.pdl_law_sides.specs.Sides.{Sides, asks_memory, asked_address, goes_to_place, asked_into, port_step}
@@ -165,7 +166,7 @@ ports_first p c vs gates moves sides own m r h image s regs = record {
 
 -- FROM CYCLE TO CYCLE
 
-module _ (p : Pipe) (reads : Reads p) (leads : LeadsOn p) (some : 0 < length p.stages) (c : Circuit) (vs : ℕ → View)
+module _ (p : Pipe) (reads : Reads p) (leads : LeadsOn p) (apart : IsAdvisedApart p) (some : 0 < length p.stages) (c : Circuit) (vs : ℕ → View)
     (gates : Gates) (moves : ℕ → Signal) (sides : Sides) (own : Rattle.pdl_net.specs.Growth.Own) (m : ℕ) (r : Reading)
     (is : reading p m ≡ Some r) (r_low : r.stage < length p.stages) (has : HasPort p c vs gates moves sides own m r)
     (s : State) (st : MachineState) (bits : List Bool) (flight : InFlight p st) (flight' : InFlight p (cycle p st bits))
@@ -198,7 +199,7 @@ module _ (p : Pipe) (reads : Reads p) (leads : LeadsOn p) (some : 0 < length p.s
           (goes_to_place (stage_at p r.stage).next i (vs r.stage).ended)
           (asks_of m (asked_in s (vs r.stage).ended.asks)) (place_to (stage_at p r.stage).next d.env == i)
           (asks_value s m (moves r.stage) true ((seen r.stage r_low).leaves ∙ ap bit e.2) (vs r.stage).ended.asks)
-          (λ z. place_value s (stage_at p r.stage).next i (vs r.stage).ended d.env l (λ x f. so.env x (lives_fork p r.stage x r_low f)))
+          (λ z. place_value s (stage_at p r.stage).next i (vs r.stage).ended d.env l (fork_value p apart r.stage s (vs r.stage).ended d r_low so))
           ∙ ap (λ (qs : List Ask). bit (asks_of m qs && (place_to (stage_at p r.stage).next d.env == i))) (sym so.asks)
           ∙ ap₂ (λ b o. bit (asked_at p st m r b o i)) (sym e.2) (sym e.1)
 

@@ -8,7 +8,6 @@ use Rattle.pdl_semantics.specs.Cycle.{first, state_after}
 use Rattle.pdl_rules.specs.Places.{Parameter}
 use Rattle.pdl_rules.specs.Typed.{is_memory, AreDistinct}
 use Rattle.pdl_rules.specs.Refusal.{KeepsRules}
-use Rattle.pdl_rules.specs.Unbuilt.{IsBuilt}
 use Rattle.pdl_source_paths.specs.Source.{is_source, is_named}
 use Rattle.pdl_source_paths.proofs.Memories.{all_after, distinct}
 use Rattle.pdl_source_strict.proofs.Paths.{paths_strict}
@@ -64,19 +63,19 @@ same_count (m ∷ ms) = ap suc (same_count ms)
 -- THE WHOLE
 
 -- what is known of each cycle of the runs of an accepted source
-pub known_source : (p : tree.Pipe) → KeepsRules p → IsBuilt p
+pub known_source : (p : tree.Pipe) → KeepsRules p
     → is_source p ≡ true → is_named p ≡ true → (image : Arrays) (before : List (List Bool)) (bits : List Bool)
     → IsKnown (flat p) (state_after (flat p) (first (flat p) image) before) bits
-known_source p rules built source named =
-    let lawful = lawful_source p rules built source named in
+known_source p rules source named =
+    let lawful = lawful_source p rules source named in
     known_here (flat p) lawful.sound (paths_strict p rules source) (careful_source p rules source) lawful.reads
 
-module _ (p : tree.Pipe) (rules : KeepsRules p) (built : IsBuilt p) (source : is_source p ≡ true) (named : is_named p ≡ true) (ls : Locks)
+module _ (p : tree.Pipe) (rules : KeepsRules p) (source : is_source p ≡ true) (named : is_named p ≡ true) (ls : Locks)
     (vs : ℕ → View) (gates : Gates) (moves : ℕ → Signal) (sides : Sides) (n : Netlist)
     (made : IsMadeWhole p ls vs gates moves sides n) where
   -- the rules give of the flat form what its netlist hangs on
   pub lawful : IsLawful (flat p)
-  lawful = lawful_source p rules built source named
+  lawful = lawful_source p rules source named
 
   -- the names of the pipe's memories differ
   pub apart : Apart (mem_names p.mems) (length (flat p).mems)
@@ -87,7 +86,7 @@ module _ (p : tree.Pipe) (rules : KeepsRules p) (built : IsBuilt p) (source : is
   IsStandingFor image h st =
       IsStanding (flat p)
       (mem_names p.mems) apart lawful
-      (known_source p rules built source named) ls vs gates moves sides n made.compiled made.formed.well made.mems
+      (known_source p rules source named) ls vs gates moves sides n made.compiled made.formed.well made.mems
       (arrays_of (in_order (flat p) image)) h st
 
   -- from each image, what the netlist holds at the start stands for the machine's first state
@@ -111,4 +110,4 @@ module _ (p : tree.Pipe) (rules : KeepsRules p) (built : IsBuilt p) (source : is
   pub shows_source : ShowsWhole (flat p) n
   shows_source =
       shows_whole (flat p)
-      (mem_names p.mems) apart lawful (known_source p rules built source named) ls vs gates moves sides n made.compiled made.formed.well made.mems stands_source
+      (mem_names p.mems) apart lawful (known_source p rules source named) ls vs gates moves sides n made.compiled made.formed.well made.mems stands_source

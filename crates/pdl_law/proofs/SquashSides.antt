@@ -17,6 +17,7 @@ use Rattle.pdl_machine_facts.specs.Cycle.{IsByStages}
 use Rattle.pdl_law_parts.specs.Served.{IsServed}
 use Rattle.pdl_machine_lockuse.specs.Cut.{IsCut}
 use Rattle.pdl_law_parts.specs.Walk.{Locks, is_locked}
+use Rattle.pdl_law_parts.specs.Advice.{IsAdvisedApart}
 use Rattle.pdl_law_parts.specs.Views.{View, Gates}
 use Rattle.pdl_law_parts.specs.Compiled.{IsLaid}
 use Rattle.pdl_law_parts.specs.Stands.{StandsLock, IsSeen, IsSquashed}
@@ -38,7 +39,7 @@ pub tails_start : (p : Pipe) (ls : Locks) (vs : ℕ → View) (sides : Sides) (i
     → TailsStand p ls vs sides s (first p image)
 tails_start p ls vs sides image s v is = tails_first p ls vs sides v image s
 
-module _ (p : Pipe) (sound : Sound p) (together : UpdatesTogether p) (leads : LeadsOn p) (ls : Locks) (c : Circuit) (vs : ℕ → View) (gates : Gates)
+module _ (p : Pipe) (sound : Sound p) (together : UpdatesTogether p) (leads : LeadsOn p) (apart : IsAdvisedApart p) (ls : Locks) (c : Circuit) (vs : ℕ → View) (gates : Gates)
     (moves : ℕ → Signal) (made : IsLaid p ls vs gates moves c) (sides : Sides)
     (has : HasSides p ls c vs gates moves sides)
     (s : State) (st : machine.State) (bits : List Bool) (suits : Suits c s) (flight : InFlight p st)
@@ -65,7 +66,7 @@ module _ (p : Pipe) (sound : Sound p) (together : UpdatesTogether p) (leads : Le
         λ m n locked stand e.
         (let z = (squasher_in p sound together st bits flight n e).1 in
         let v = squash_early p (squasher_in p sound together st bits flight n e).0 z in
-        tail_is p sound together leads ls c vs gates moves made sides v.0 v.1 (has.tails v.0 v.1) s st bits suits flight by used cut seen (stood p st bits)
+        tail_is p sound together leads apart ls c vs gates moves made sides v.0 v.1 (has.tails v.0 v.1) s st bits suits flight by used cut seen (stood p st bits)
         (tails v.0 v.1) m locked stand
         (squashes_told p sound together c vs gates moves sides has.removals s st bits suits flight by (λ j i. (seen j i).valid) seen) n e);
   }
@@ -74,5 +75,5 @@ module _ (p : Pipe) (sound : Sound p) (together : UpdatesTogether p) (leads : Le
   pub tails_next : ((m : ℕ) → is_locked p m ≡ true → StandsLock p ls vs s st m) → (t : State) → t.regs ≡ next_regs c s
       → t.arrays ≡ next_arrays c s → TailsStand p ls vs sides t (cycle p st bits)
   tails_next locks t regs arrays v is =
-      tails_kept p sound together leads ls c vs gates moves made sides v is (has.tails v is) s st bits suits flight by used cut seen (stood p st bits)
+      tails_kept p sound together leads apart ls c vs gates moves made sides v is (has.tails v is) s st bits suits flight by used cut seen (stood p st bits)
       (tails v is) locks squashed_is t regs arrays

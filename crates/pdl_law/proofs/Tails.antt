@@ -27,13 +27,14 @@ use Rattle.pdl_machine_facts.specs.Cycle.{IsByStages}
 use Rattle.pdl_machine_facts.proofs.StagewisePorts.{at_stage, past_stage}
 use Rattle.pdl_machine_lockuse.specs.Cut.{IsCut}
 use Rattle.pdl_law_parts.specs.Walk.{Locks, Walk, is_locked, is_on, one, zero_bit}
+use Rattle.pdl_law_parts.specs.Advice.{IsAdvisedApart}
 use Rattle.pdl_law_parts.specs.Views.{View, Gates, Comer, branch, out_of, new_from, comers}
 use Rattle.pdl_law_parts.specs.Compiled.{IsLaid}
 use Rattle.pdl_law_parts.specs.Served.{IsServed}
 use Rattle.pdl_law_parts.specs.Stands.{StandsLock, IsSeen, IsSquashed}
 use Rattle.pdl_law_parts.proofs.Signals.{one_is, zero_is, on_is}
 use Rattle.pdl_law_parts.proofs.AnsweredThreads.{Stood}
-use Rattle.pdl_law_parts.proofs.Moves.{ready_of, lives_fork}
+use Rattle.pdl_law_parts.proofs.Moves.{ready_of, fork_value}
 use Rattle.pdl_law_parts.proofs.LockActs.{reserves_are, pending_count}
 use Rattle.pdl_law_parts.proofs.LockStep.{words_next, stands_next}
 use Rattle.pdl_law_parts.proofs.LockPorts.{both_is, moves_or_not}
@@ -114,7 +115,7 @@ if_kept_is sq (Some t) u e = at (is_kept sq t.number) refl e
     at true f g = let same : t ≡ u = cc g in (g, subst (λ (x : Thread). is_kept sq x.number ≡ true) same f)
     at false f g = absurd (cc g)
 
-module _ (p : Pipe) (sound : Sound p) (together : UpdatesTogether p) (leads : LeadsOn p) (ls : Locks) (c : Circuit) (vs : ℕ → View) (gates : Gates)
+module _ (p : Pipe) (sound : Sound p) (together : UpdatesTogether p) (leads : LeadsOn p) (apart : IsAdvisedApart p) (ls : Locks) (c : Circuit) (vs : ℕ → View) (gates : Gates)
     (moves : ℕ → Signal) (made : IsLaid p ls vs gates moves c) (sides : Sides) (v : ℕ)
     (is : verify_stage p.stmts ≡ Some v) (has : HasTails p ls c vs gates moves sides v)
     (s : State) (st : machine.State) (bits : List Bool) (suits : Suits c s) (flight : InFlight p st)
@@ -203,7 +204,7 @@ module _ (p : Pipe) (sound : Sound p) (together : UpdatesTogether p) (leads : Le
         let so = ((seen j l).follows f.0 f.1).so (ready_of p st bits j f.0 by l f.1 f.2) in
         let on : is_on o.comes s ≡ is_stage q (next_stage p j d) =
         both_is s (moves j) (branch (stage_at p j).next q (vs j).ended) true ((seen j l).leaves ∙ ap bit f.2)
-        ∙ branch_is s (vs j).ended (stage_at p j).next q d.env (λ x e. so.env x (lives_fork p j x l e)) in
+        ∙ branch_is s (vs j).ended (stage_at p j).next q d.env (fork_value p apart j s (vs j).ended d l so) in
         let P : Option Thread → Type 0 = λ x. AreAlike (if is_on o.comes s then Some o else None) x in
         let Q : Bool → Type 0 =
         λ b. AreAlike (if b then Some o else None) (if is_stage q (next_stage p j d) then Some (thread_after (act_at p st j f.0)) else None) in

@@ -1,36 +1,43 @@
 -- A netlist of a whole pipe in one cycle: each stage is as the machine's, squashes are as they should be, and the next state stands for the machine's next state.
-use Rattle.std.proofs.Common.{◌≡◌, sym, ap, ◌∙◌, subst, ℕ, ◌<◌, Bool, ◌&&◌, List, length, map, Some, arith}
+use Rattle.std.proofs.Common.{◌≡◌, sym, ap, ◌∙◌, subst, ℕ, ◌<◌, Bool, true, false, ◌&&◌, List, length, map, Some}
 use Rattle.std.specs.Prelude.{slice_index}
 use Rattle.pdl_word.specs.Words.{bit}
+use Rattle.pdl_word.proofs.Bools.{by_bool}
+use Rattle.pdl_semantics.proofs.Facts.{kept_append, kept_long}
 use Rattle.pdl_semantics.specs.Flat.{Arrays, Pipe}
 use Rattle.pdl_semantics.specs.Stages.{stage_at, verify_stage}
 use Rattle.pdl_semantics.specs.Updates.{squash_stages}
 use Rattle.pdl_semantics.specs.Machine as machine
-use Rattle.pdl_semantics.specs.Machine.{Thread, deeds, fork_of, with_kept}
+use Rattle.pdl_semantics.specs.Machine.{Thread, answered_reads, with_answers, deeds, fork_of, with_kept}
 use Rattle.pdl_semantics.specs.Moves.{is_empty, no_failure, ports_free, barrier_clear, merges_well, next_stage}
-use Rattle.pdl_semantics.specs.Cycle.{first, cycle, squasher, with_all_advised}
+use Rattle.pdl_semantics.specs.Cycle.{first, cycle, squasher}
 use Rattle.pdl_net.specs.declared.Reg.{Reg}
 use Rattle.pdl_net.specs.Circuit.{Circuit, State}
 use Rattle.pdl_net.specs.Signal.{Signal}
 use Rattle.pdl_net.specs.Cycle.{next_regs, next_arrays}
 use Rattle.pdl_net.specs.Well.{Suits}
 use Rattle.pdl_machine_facts.specs.Slots.{slot, here, later_acts, may_pass, moving}
+use Rattle.pdl_machine_facts.proofs.PlainWords.{plain_next}
 use Rattle.pdl_law_parts.specs.Walk.{Locks, both}
+use Rattle.pdl_law_parts.specs.Advice.{is_advised_in, AreAdvised}
 use Rattle.pdl_law_parts.specs.Views.{View, Gates, way_on}
 use Rattle.pdl_law_parts.specs.Compiled.{IsLaid}
 use Rattle.pdl_law_parts.specs.Beside.{TellsGate}
 use Rattle.pdl_law_parts.specs.Stands.{IsEnv, StandsFor, IsSeen, IsSquashed}
 use Rattle.pdl_law_parts.proofs.Signals.{both_at}
 use Rattle.pdl_law_parts.proofs.AnsweredThreads.{stood}
-use Rattle.pdl_law_parts.proofs.Moves.{all_seen, lives_fork}
-use Rattle.pdl_law_parts.proofs.Comers.{Spares, none_advised}
+use Rattle.pdl_law_parts.proofs.AdvisedValues.{plain_value, over_same}
+use Rattle.pdl_law_parts.proofs.Moves.{all_seen, fork_value}
+use Rattle.pdl_law_parts.proofs.Comers.{Spares}
 use Rattle.pdl_law_parts.proofs.NextState.{stands_after}
 use Rattle.pdl_machine_inflight.specs.Readings.{Reading, reading}
 use Rattle.pdl_machine_inflight.proofs.Squashes.{stood_in}
+use Rattle.pdl_machine_inflight.proofs.Answers.{not_bound}
 use Rattle.pdl_machine_inflight.proofs.DeedsIn.{verified_later}
-use Rattle.pdl_law_sides.specs.Sides.{Sides, answers_of, all_answered, unsquashed, ports_open, clear_to, barrier_open, turn}
+use Rattle.pdl_law_sides.specs.Sides.{Sides, answers_of, with_answer, all_answered, unsquashed, ports_open, clear_to, barrier_open, turn}
 use Rattle.pdl_law_sides.specs.HasSides.{HasSides}
 use Rattle.pdl_law.specs.StandingStates.{IsLawful, IsKnown}
+use Rattle.pdl_law.proofs.AdvisedAnswers.{not_answered, not_awaited}
 use Rattle.pdl_law.proofs.PortSides.{PortStands, IsGiven, awaits_told, variable_told, ports_told}
 use Rattle.pdl_law.proofs.PortsNext.{ports_first, ports_next}
 use Rattle.pdl_law.proofs.Removals.{removes, unsquashed_is, barrier_is, emptied_told, kill_is}
@@ -63,15 +70,47 @@ module _ (p : Pipe) (lawful : IsLawful p) (ls : Locks) (vs : ℕ → View) (gate
 
   module _ (s : State) (st : machine.State) (bits : List Bool) (suits : Suits c s) (known : IsKnown p st bits)
       (whole : WholeStands p ls vs sides s st) (given : IsGiven p sides s st bits) where
+    -- a variable with the answers of this cycle, under what is advised
+    answered : (k : ℕ) (u : Thread) → slot st k ≡ Some u → (x : ℕ) (kept : Signal)
+        → kept.value s ≡ slice_index (with_kept u.advice (with_kept u.kept u.env)) x
+        → (with_answer p (answers_of sides) k x kept).value s ≡ slice_index (with_kept u.advice (with_kept (with_answers p st bits u).kept u.env)) x
+    answered k u f x kept e = by_bool (is_advised_in p x) _ advised plain
+      where
+        before : List ℕ
+        before = with_kept u.kept u.env
+
+        after : List ℕ
+        after = with_kept (with_answers p st bits u).kept u.env
+
+        told : AreAdvised p u.advice
+        told = whole.stands.advice k u f
+
+        Goal : Type 0
+        Goal = (with_answer p (answers_of sides) k x kept).value s ≡ slice_index (with_kept u.advice after) x
+
+        plain : is_advised_in p x ≡ false → Goal
+        plain h =
+            variable_told p lawful.reads lawful.leads lawful.inside c vs gates moves sides beside.port_owns beside.ports s st bits known.flight known.by whole.ports given k u f
+            (whole.stands.long k u f) x kept (e ∙ plain_value p u.advice before x told h)
+            ∙ sym (plain_value p u.advice after x told h)
+
+        advised : is_advised_in p x ≡ true → Goal
+        advised h =
+            ap (λ (f : Signal). f.value s) (not_answered p lawful.apart x h (answers_of sides) k (length p.mems) 0 kept)
+            ∙ e
+            ∙ over_same u.advice before after x (kept_long u.kept u.env ∙ sym (kept_long (with_answers p st bits u).kept u.env))
+            (sym
+            (not_bound p st bits k u.number x u.awaits before (known.flight.awaited k u f)
+            (not_awaited p lawful.apart x h st bits k u.number u.awaits (known.flight.awaited k u f)))
+            ∙ sym (ap (λ l. slice_index l x) (kept_append u.kept (answered_reads p st bits u.number u.awaits) u.env)))
+
     -- each walk begins with the answers
-    answers : (k : ℕ) (t : Thread) → k < length p.stages → here p st bits k ≡ Some t → IsEnv p k s (vs k).begun.vars (with_kept t.kept t.env)
+    answers : (k : ℕ) (t : Thread) → k < length p.stages → here p st bits k ≡ Some t
+        → IsEnv p k s (vs k).begun.vars (with_kept t.advice (with_kept t.kept t.env))
     answers k t l h x live =
         let y = stood_in p st bits k t h in
-        subst (λ (v : Thread). slice_index (with_kept v.kept v.env) x ≡ ((vs k).begun.vars x).value s) y.2
-        (sym (beside.begun k x l s suits
-        ∙ variable_told p lawful.reads lawful.leads lawful.inside c vs gates moves sides beside.port_owns beside.ports s st bits known.flight known.by whole.ports given k y.0 y.1
-        (whole.stands.long k y.0 y.1) x ((vs k).kept x)
-        (sym (whole.stands.env k y.0 y.1 x live))))
+        subst (λ (v : Thread). slice_index (with_kept v.advice (with_kept v.kept v.env)) x ≡ ((vs k).begun.vars x).value s) y.2
+        (sym (beside.begun k x l s suits ∙ answered k y.0 y.1 x ((vs k).kept x) (sym (whole.stands.env k y.0 y.1 x live))))
 
     -- and each gate tells what it should
     tells : (k : ℕ) (t : Thread) → k < length p.stages → here p st bits k ≡ Some t → TellsGate p vs gates moves s st bits k t
@@ -100,36 +139,30 @@ module _ (p : Pipe) (lawful : IsLawful p) (ls : Locks) (vs : ℕ → View) (gate
         (barrier_is p lawful.sound lawful.updates c vs gates moves sides beside.removals s st bits suits known.flight known.by whole.stands.valid k d w.barrier
         so.barrier later)
         (λ g. merges_is p lawful.sound c vs gates moves sides beside.order_owns beside.orders s st whole.orders k w d l
-        (λ x i. so.env x (lives_fork p k x l i))))))
+        (fork_value p lawful.apart k s w d l so)))))
 
     -- each stage is as the machine's
     pub seen_whole : (j : ℕ) → j < length p.stages → IsSeen p vs moves s st bits j
-    seen_whole = all_seen p ls vs gates moves c laid lawful.rows lawful.leads s st bits suits whole.stands known.used known.by answers tells
+    seen_whole = all_seen p ls vs gates moves c laid lawful.rows lawful.apart lawful.leads s st bits suits whole.stands known.used known.by answers tells
 
     -- the squash is as the machine's
     pub squashed_whole : IsSquashed p ls vs gates s st bits
     squashed_whole =
-        squashed_is p lawful.sound lawful.updates lawful.leads ls c vs gates moves laid sides beside s st bits suits known.flight known.by known.used known.cut
+        squashed_is p lawful.sound lawful.updates lawful.leads lawful.apart ls c vs gates moves laid sides beside s st bits suits known.flight known.by known.used known.cut
         seen_whole whole.tails
 
     -- no thread that moves is removed, and no stage past V verifies
     spares : Spares p st bits
     spares = record { kept = known.spared; calm = λ k later. verified_later p lawful.sound.verifies k later }
 
-    -- no advisory memory is written
-    pub calm_whole : (arrays : Arrays) → with_all_advised (moving p st bits) arrays ≡ arrays
-    calm_whole arrays =
-        none_advised p ls vs moves s st bits lawful.leads known.by known.used whole.stands seen_whole (stood p st bits) spares
-        (length p.stages) 0 arrays (omega arith)
-
     -- the next state of the circuit stands for the machine's next state
     pub whole_next : (t : State) → Suits c t → t.regs ≡ next_regs c s → t.arrays ≡ next_arrays c s → WholeStands p ls vs sides t (cycle p st bits)
     whole_next t suits' regs arrays = record {
       stands =
           stands_after p ls vs gates moves c laid lawful.leads s st bits suits whole.stands known.used known.by spares seen_whole
-          (stood p st bits) squashed_whole answers t suits' regs arrays known.later;
+          (stood p st bits) squashed_whole answers lawful.apart (plain_next p lawful.sound.advice st bits known.by) t suits' regs arrays known.later;
       ports = λ m r is.
-          ports_next p lawful.reads lawful.leads lawful.some c vs gates moves sides (beside.port_owns m) m r is (lawful.inside m r is)
+          ports_next p lawful.reads lawful.leads lawful.apart lawful.some c vs gates moves sides (beside.port_owns m) m r is (lawful.inside m r is)
           (beside.ports m r is) s st bits known.flight known.next known.by (whole.ports m r is) given seen_whole known.spared
           (λ k. removes (squasher (moving p st bits)) (slot st k))
           (λ k l. kill_is p lawful.sound lawful.updates c vs gates moves sides beside.removals s st bits suits known.flight known.by whole.stands.valid
@@ -137,12 +170,12 @@ module _ (p : Pipe) (lawful : IsLawful p) (ls : Locks) (vs : ℕ → View) (gate
           (λ k u e. ap (removes (squasher (moving p st bits))) e) t regs arrays;
       orders =
           λ f q low e. order_kept p c vs gates moves sides (beside.order_owns f) f low
-          (beside.orders f q low e) s st bits known.by seen_whole
+          (beside.orders f q low e) s st bits known.by lawful.apart seen_whole
           (emptied_told p lawful.sound lawful.updates c vs gates moves sides beside.removals s st bits suits known.flight known.by whole.stands.valid
           seen_whole f)
           lawful.sound lawful.leads known.flight.count known.next
           (whole.orders f q low e) t regs arrays;
       tails =
-          tails_next p lawful.sound lawful.updates lawful.leads ls c vs gates moves laid sides beside s st bits suits known.flight known.by known.used known.cut
+          tails_next p lawful.sound lawful.updates lawful.leads lawful.apart ls c vs gates moves laid sides beside s st bits suits known.flight known.by known.used known.cut
           seen_whole whole.tails whole.stands.locks t regs arrays;
     }

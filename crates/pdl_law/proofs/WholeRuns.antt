@@ -9,7 +9,7 @@ use Rattle.pdl_semantics.specs.Locks.{commit_value}
 use Rattle.pdl_semantics.specs.Machine as machine
 use Rattle.pdl_semantics.specs.Machine.{Pending, NoRequest, is_answered, request_of}
 use Rattle.pdl_semantics.specs.Moves.{all_acts}
-use Rattle.pdl_semantics.specs.Cycle.{first, cycle, state_after, turns_from, is_wait, with_all_advised, all_releases, taken_out, port_writes, list_two, asked_in, waits_from}
+use Rattle.pdl_semantics.specs.Cycle.{first, cycle, state_after, turns_from, is_wait, all_releases, taken_out, port_writes, list_two, asked_in, waits_from}
 use Rattle.pdl_semantics.specs.Cycle as stated
 use Rattle.pdl_semantics.specs.SecondWrites.{reserves_twice}
 use Rattle.pdl_net.specs.declared.Netlist.{Netlist}
@@ -41,7 +41,7 @@ use Rattle.pdl_law_sides.specs.WholeNetlist.{IsNet, FitsOutside, IsWhole, reply_
 use Rattle.pdl_law_parts.specs.Places.{delayed_count}
 use Rattle.pdl_law.proofs.PortSides.{IsGiven}
 use Rattle.pdl_law.proofs.PortsNext.{address_or}
-use Rattle.pdl_law.proofs.WholeCycle.{WholeStands, seen_whole, squashed_whole, calm_whole, whole_next}
+use Rattle.pdl_law.proofs.WholeCycle.{WholeStands, seen_whole, squashed_whole, whole_next}
 use Rattle.pdl_law.proofs.Stores.{delayed_in, counted, ReadsStore, inputs_read, input_widths, inputs_fit}
 use Rattle.pdl_law.proofs.OutputNames.{Apart}
 use Rattle.pdl_law.proofs.WholeOutputs.{ShowsPut, puts_at, request_at, commit_named, commit2_named, no_commit, no_commit2, request_named, whole_shows}
@@ -159,12 +159,6 @@ module _ (p : Pipe) (names : ℕ → List ℕ) (apart : Apart names (length p.me
           squashed_whole p lawful ls vs gates moves sides (circuit_of n) made.laid made.beside (state_in h b) st
           (replies_of (delayed_count p) b) suits knows (x.whole b suits) given
 
-      -- no advisory memory is written
-      calm : (arrays : Arrays) → with_all_advised (moving p st (replies_of (delayed_count p) b)) arrays ≡ arrays
-      calm =
-          calm_whole p lawful ls vs gates moves sides (circuit_of n) made.laid made.beside (state_in h b) st
-          (replies_of (delayed_count p) b) suits knows (x.whole b suits) given
-
       -- the cycle is a wait of both
       waits : net_run.some_waits h.stores b ≡ is_wait p st (replies_of (delayed_count p) b)
       waits =
@@ -190,7 +184,7 @@ module _ (p : Pipe) (names : ℕ → List ℕ) (apart : Apart names (length p.me
 
       -- what each delayed memory commits and is asked
       steps : (m : ℕ) → m < length p.mems → is_delayed (mem_at p m).kind ≡ true
-          → StepsTo p lawful st (replies_of (delayed_count p) b) knows calm (circuit_of n) (state_in h b) names m
+          → StepsTo p lawful st (replies_of (delayed_count p) b) knows (circuit_of n) (state_in h b) names m
       steps m l d = record {
         commit = at (is_locked p m) refl;
         commit2 = at2 (is_locked p m) refl;
@@ -290,12 +284,12 @@ module _ (p : Pipe) (names : ℕ → List ℕ) (apart : Apart names (length p.me
         reached = ap (λ y. cycle p y (replies_of (delayed_count p) b)) x.reached ∙ sym (after_more p (first p image) x.before (replies_of (delayed_count p) b));
         holds = next_holds (circuit_of n) (state_in h b) well suits;
         stores =
-            stores_next p lawful st (replies_of (delayed_count p) b) knows calm (circuit_of n)
+            stores_next p lawful st (replies_of (delayed_count p) b) knows (circuit_of n)
             (state_in h b) names 0 p.mems (delayed_mems n) h.stores b (omega arith)
             (λ i l. ap (mem_at p) (let z : 0 + i ≡ i = omega arith in z)) mems.named x.stores (replied b)
-            (λ i l d. subst (StepsTo p lawful st (replies_of (delayed_count p) b) knows calm (circuit_of n) (state_in h b) names)
+            (λ i l d. subst (StepsTo p lawful st (replies_of (delayed_count p) b) knows (circuit_of n) (state_in h b) names)
             (let z : i ≡ 0 + i = omega arith in z) (steps i l d));
-        quiet = λ m l e. quiet_next p lawful st (replies_of (delayed_count p) b) knows calm m l e (x.quiet m l e);
+        quiet = λ m l e. quiet_next p lawful st (replies_of (delayed_count p) b) knows m l e (x.quiet m l e);
         whole =
             λ k fits. whole_next p lawful ls vs gates moves sides (circuit_of n) made.laid made.beside (state_in h b) st
             (replies_of (delayed_count p) b) suits knows (x.whole b suits) given

@@ -10,6 +10,7 @@ use Rattle.pdl_machine_facts.specs.Cycle.{IsByStages}
 use Rattle.pdl_machine_facts.specs.Use.{IsInUse}
 use Rattle.pdl_machine_lockuse.specs.Cut.{IsCut}
 use Rattle.pdl_law_parts.specs.Rows.{HaveRows}
+use Rattle.pdl_law_parts.specs.Advice.{IsAdvisedApart}
 use Rattle.pdl_law_parts.specs.Served.{IsServed}
 use Rattle.pdl_machine_inflight.specs.Readings.{Reading, reading, Reads}
 use Rattle.pdl_machine_inflight.specs.InFlight.{InFlight, UpdatesTogether}
@@ -22,6 +23,7 @@ pub record IsLawful (p : Pipe) : Type 0 where
   pub updates : UpdatesTogether p
   pub reads : Reads p
   pub rows : HaveRows p
+  pub apart : IsAdvisedApart p
   pub inside : (m : ℕ) (r : Reading) → reading p m ≡ Some r → r.stage < length p.stages
 
 -- what is known of a cycle from a state that a run comes to

@@ -9,15 +9,14 @@ ghost use Rattle.pdl_semantics.specs.Flat.{Arrays};
 ghost use Rattle.pdl_semantics.specs.Flatten.{flat};
 ghost use Rattle.pdl_semantics.specs.Cycle.{first, state_after};
 ghost use Rattle.pdl_rules.specs.Refusal.{KeepsRules};
-ghost use Rattle.pdl_rules.specs.Unbuilt.{IsBuilt};
 ghost use Rattle.pdl_source_paths.specs.Source.{is_source, is_named};
 ghost use Rattle.pdl_law.specs.StandingStates.{IsLawful, IsKnown};
 
-/// What the law of a netlist takes of a source that breaks no rule and has no form without circuit: of its text and stages, and of each cycle of its runs, whatever the image and the replies.
+/// What the law of a netlist takes of a source that breaks no rule: of its text and stages, and of each cycle of its runs, whatever the image and the replies.
 pub fn whole_pipe()
-    ensures lawful { (p : Tree.Pipe) → KeepsRules p → IsBuilt p → IsTrue (is_source p) →
+    ensures lawful { (p : Tree.Pipe) → KeepsRules p → IsTrue (is_source p) →
         IsTrue (is_named p) → IsLawful (flat p) }
-    ensures known { (p : Tree.Pipe) → KeepsRules p → IsBuilt p → IsTrue (is_source p) →
+    ensures known { (p : Tree.Pipe) → KeepsRules p → IsTrue (is_source p) →
         IsTrue (is_named p) → (image : Arrays) (before : List (List Bool)) (bits : List Bool) →
         IsKnown (flat p) (state_after (flat p) (first (flat p) image) before) bits }
 {}

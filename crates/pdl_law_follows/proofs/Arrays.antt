@@ -60,16 +60,16 @@ delayed_contained ms m a d = contained (delayed_of ms) m (some_among answers_lat
 
 -- an array of a memory that answers at once is one of a pipe
 pub pipe_array : (twice : ℕ → Bool) (ms : List Mem) (a : Array) (m : Mem) → AreDistinct ms → ((y : Mem) → Among y ms → Reaches y)
-    → IsAddressed m → Among m ms → is_delayed m.kind ≡ false → (is_some m.lock ≡ false → a.writes ≡ [])
+    → IsAddressed m → Among m ms → is_delayed m.kind ≡ false
     → shape_of a ≡ shape_of_mem m → IsPipeArray (map (port_mem false) (delayed_of ms)) (locked_of twice 0 ms) a
-pipe_array twice ms a m distinct reach size among at_once free shape = record {
+pipe_array twice ms a m distinct reach size among at_once shape = record {
   inside = delayed_all (λ l. l.name ≢ a.name) ms (λ y h d e. false≢true (sym at_once ∙ ap (λ (x : Mem). is_delayed x.kind) (sym (same y h e)) ∙ d));
   width = locked_all (λ l. l.name ≡ a.name → a.width ≡ l.width) twice 0 ms (λ t y h e. width ∙ ap (λ (x : Mem). x.width.value) (sym (same y h e)));
   depth =
       locked_all (λ l. l.name ≡ a.name → (a.depth ≡ 2 ^ l.bits) ⊎ (a.depth ≡ 2 * 2 ^ l.bits)) twice 0 ms
       (λ t y h e. deep m.lock (2 ^ (port_mem t y).bits) (sym (reach y h ∙ ap (λ (x : Mem). x.depth.value) (same y h e))) depth);
   unlocked = λ none. let e = lockless (is_some m.lock) refl none in
-      (subst (λ n. n ≤ 65536) (sym (depth ∙ shallow m.lock m.depth.value e)) size.shallow, free e);
+      subst (λ n. n ≤ 65536) (sym (depth ∙ shallow m.lock m.depth.value e)) size.shallow;
 }
   where
     name : a.name ≡ m.name.name

@@ -7,7 +7,6 @@ use Rattle.pdl_semantics.specs.Flatten.{flat, mems_of}
 use Rattle.pdl_semantics.specs.Stages.{plain_mem}
 use Rattle.pdl_rules.specs.Places.{Place, Parameter, Memory, End, StartClause, places, statements}
 use Rattle.pdl_rules.specs.Refusal.{KeepsRules}
-use Rattle.pdl_rules.specs.Unbuilt.{IsBuilt}
 use Rattle.pdl_rules.proofs.EachPlace.{Each}
 use Rattle.pdl_rules.proofs.Memories.{Keeps, sized, all_deep, distinct}
 use Rattle.pdl_source_paths.specs.Source.{is_source, is_named}
@@ -57,11 +56,11 @@ declared p rules =
 
 -- ---- the whole
 
-module _ (p : tree.Pipe) (rules : KeepsRules p) (built : IsBuilt p) (source : is_source p ≡ true) (named : is_named p ≡ true) (ls : Locks)
+module _ (p : tree.Pipe) (rules : KeepsRules p) (source : is_source p ≡ true) (named : is_named p ≡ true) (ls : Locks)
     (vs : ℕ → View) (gates : Gates) (moves : ℕ → Signal) (sides : Sides) (n : Netlist)
     (made : IsMade p ls vs gates moves sides n) where
   lawful : IsLawful (flat p)
-  lawful = lawful_source p rules built source named
+  lawful = lawful_source p rules source named
 
   asked : AreAsked made.compiled.asks 0 p.mems
   asked i l d =
@@ -76,16 +75,16 @@ module _ (p : tree.Pipe) (rules : KeepsRules p) (built : IsBuilt p) (source : is
   follows =
       let formed =
       well_formed (flat p) p.mems (declared p rules) refl lawful.some
-      (few_stages p rules) ls vs gates moves sides n made.well made.compiled made.in_order made.arrays made.wide made.commits asked made.mems in
+      (few_stages p rules) ls vs gates moves sides n made.well made.compiled made.arrays made.wide made.commits asked made.mems in
       record {
         name = made.name;
         well_formed = formed;
         ports =
             ports (flat p) p.mems (declared p rules) refl lawful.some
-            (few_stages p rules) ls vs gates moves sides n made.well made.compiled made.in_order made.arrays made.wide made.commits asked made.mems;
+            (few_stages p rules) ls vs gates moves sides n made.well made.compiled made.arrays made.wide made.commits asked made.mems;
         mems = made.mems;
         arrays = made.arrays;
         shows =
-            shows_source p rules built source named ls vs gates moves sides n
+            shows_source p rules source named ls vs gates moves sides n
             (record { compiled = made.compiled; formed = formed; mems = has_mems (flat p) p.mems refl ls n made.in_order made.mems });
       }

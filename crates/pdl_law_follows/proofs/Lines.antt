@@ -15,7 +15,6 @@ use Rattle.pdl_semantics.specs.SecondWrites.{reserves_twice, all_twice}
 use Rattle.pdl_semantics.specs.Lines.{Put, cycle_lines, lines_from, lines, columns, puts_for, puts_in, turn_cycle, turn_cycles}
 use Rattle.pdl_rules.specs.Typed.{AreDistinct}
 use Rattle.pdl_rules.specs.Refusal.{KeepsRules}
-use Rattle.pdl_rules.specs.Unbuilt.{IsBuilt}
 use Rattle.pdl_rules.specs.Memories.{info_of}
 use Rattle.pdl_source_paths.specs.Source.{is_source, is_named}
 use Rattle.pdl_source_paths.proofs.Memories.{mems_length}
@@ -267,14 +266,14 @@ module _ (p : Pipe) (ms : List Mem) (same : p.mems ≡ mems_of ms) (n : Netlist)
       (same_end n (commit_mems n) (map info_of ms) xs ∙ ap end_of (cycles_are xs ts h e))
 
 -- a netlist that follows an accepted source has the turns of its machine
-pub shows_turns : (p : tree.Pipe) → KeepsRules p → IsBuilt p → is_source p ≡ true → is_named p ≡ true → (n : Netlist) → Follows p n → ShowsTurns p n
-shows_turns p rules built source named n follows =
+pub shows_turns : (p : tree.Pipe) → KeepsRules p → is_source p ≡ true → is_named p ≡ true → (n : Netlist) → Follows p n → ShowsTurns p n
+shows_turns p rules source named n follows =
     let distinct = (declared p rules).distinct in
     let names =
     outputs_are (circuit_of n) (length (flat p).stages) (map (port_mem false) (delayed_of p.mems)) (locked_from (flat p).stmts 0 p.mems) follows.ports in
     let found = subst (AreFound p.mems) (sym follows.mems) (net_found p.mems distinct) in
     let have : (image : List (List ℕ)) (schedule : List (List Bool)) → AllHave (flat p) (turns (flat p) (arrays_of image) schedule) =
-    λ image schedule. turns_have (flat p) (arrays_of image) (known_source p rules built source named (arrays_of image)) []
+    λ image schedule. turns_have (flat p) (arrays_of image) (known_source p rules source named (arrays_of image)) []
     (first (flat p) (arrays_of image)) schedule refl in
     record {
       cycles =

@@ -13,11 +13,10 @@ use Rattle.pdl_semantics.specs.Cycle as stated
 use Rattle.pdl_semantics.specs.Lines.{Cycle, puts_for, puts_in, turn_cycle, turn_cycles}
 use Rattle.pdl_semantics.specs.Promises.{Refines}
 use Rattle.pdl_semantics.proofs.UpdateFree.{updates_idle}
-use Rattle.pdl_theory.proofs.StatedTheorems.{whole_refines, whole_advances, whole_paces, updates_alike}
+use Rattle.pdl_theory.proofs.StatedTheorems.{whole_refines, whole_advances, whole_paces, updates_alike, whole_idle}
 use Rattle.pdl_source_paths.specs.Source.{is_source, is_named}
 use Rattle.pdl_source_paths.proofs.PipeFacts.{of_source}
 use Rattle.pdl_rules.specs.Refusal.{KeepsRules}
-use Rattle.pdl_rules.specs.Unbuilt.{IsBuilt}
 use Rattle.pdl_net.specs.declared.Netlist.{Netlist}
 use Rattle.pdl_image.specs.Images.{IsImage}
 use Rattle.pdl_net.specs.Run.{Held, start, next, nports_from, some_waits}
@@ -100,10 +99,10 @@ last_wait p n bits (b ∷ schedule) h st e =
 
 -- ---- netlists
 
-module _ (p : tree.Pipe) (rules : KeepsRules p) (built : IsBuilt p) (source : is_source p ≡ true) (named : is_named p ≡ true) (n : Netlist)
+module _ (p : tree.Pipe) (rules : KeepsRules p) (source : is_source p ≡ true) (named : is_named p ≡ true) (n : Netlist)
     (follows : Follows p n) where
   turned : ShowsTurns p n
-  turned = shows_turns p rules built source named n follows
+  turned = shows_turns p rules source named n follows
 
   -- the netlist writes what the threads write one after another
   pub refines : RefinesThreads p n
@@ -146,4 +145,5 @@ module _ (p : tree.Pipe) (rules : KeepsRules p) (built : IsBuilt p) (source : is
         pace = whole_paces (flat p) sound words (replies_in (flat p) schedule);
         updates =
             λ replies. updates_idle p words (replies_in (flat p) schedule) replies (updates_alike (flat p) sound words (replies_in (flat p) schedule) replies);
+        advice = λ other replies differ. whole_idle (flat p) sound words other (replies_in (flat p) schedule) replies differ;
       }

@@ -1,37 +1,33 @@
 -- A netlist that is made of a pipe is well formed, and has the ports of a pipe.
-use Rattle.std.proofs.Common.{◌≡◌, ◌≢◌, inl, inr, ℕ, ◌+◌, ◌<◌, ◌≤◌, Bool, true, false, List, [], length, get_or, map, AllPairs, refl, sym, ap, ap₂, ◌∙◌, subst, arith}
-use Rattle.std.specs.Prelude.{slice_index_or, ◌++◌}
+use Rattle.std.proofs.Common.{◌≡◌, ◌≢◌, inl, inr, ℕ, ◌+◌, ◌<◌, ◌≤◌, Bool, true, false, List, length, get_or, map, AllPairs, refl, sym, ap, ap₂, ◌∙◌, subst, arith}
+use Rattle.std.specs.Prelude.{◌++◌}
 use Rattle.std.specs.Option.{is_some}
 use Rattle.std.specs.List.{list_all}
 use Rattle.std.proofs.lemmas.List.{length-map, length-append, get_or-map, map-append}
 use Rattle.std.proofs.lemmas.List.Elements.{All-from_get_or}
 use Rattle.pdl_semantics.specs.Tree.{Mem}
-use Rattle.pdl_semantics.specs.Flat as flat
 use Rattle.pdl_semantics.specs.Flat.{Pipe, is_delayed}
 use Rattle.pdl_semantics.specs.Flatten.{mems_of}
-use Rattle.pdl_semantics.specs.Stages.{mem_at, plain_mem}
 use Rattle.pdl_semantics.specs.SecondWrites.{reserves_twice}
 use Rattle.pdl_rules.specs.Memories.{info_of}
 use Rattle.pdl_rules.specs.Refusal.{answers_at_once}
 use Rattle.pdl_rules.specs.Typed.{AreDistinct, AreSized}
 use Rattle.pdl_net.specs.declared.Netlist.{Netlist}
-use Rattle.pdl_net.specs.Circuit.{Shape, shape_of, circuit_of, no_array, array_at}
+use Rattle.pdl_net.specs.Circuit.{Shape, shape_of, circuit_of, no_array}
 use Rattle.pdl_net.specs.Signal.{Signal}
-use Rattle.pdl_net.specs.Meaning.{write_signal, write_signals}
 use Rattle.pdl_net.specs.Well.{IsWell}
 use Rattle.pdl_net.specs.Pipe.{IsAddress, IsPipeArray, IsKept, IsPipe, IsWellFormed, head_of, pipe_ports}
 use Rattle.pdl_law_parts.specs.Walk.{Locks}
 use Rattle.pdl_law_parts.specs.Views.{Gates, View}
-use Rattle.pdl_law_parts.specs.Places.{comb_place}
 use Rattle.pdl_law_parts.specs.DeclaredMems.{port_mem, locked_of, mem_names, shape_of_mem, CommitsFit, AreBitsWide}
 use Rattle.pdl_law_parts.proofs.WellFormedNames.{Among, name_of_mem, all_pairs, mem_names_differ}
 use Rattle.pdl_law_parts.proofs.WellFormedPorts.{heads_of, head_shown}
 use Rattle.pdl_law_parts.proofs.WellFormedMems.{Reaches, reaches_all, sized_among, IsAddressed, addressed}
-use Rattle.pdl_law_parts.proofs.WellFormedArrays.{name_of_array, array_names_are, IsArrayOf, array_mem, mem_array, no_write, locked_all}
+use Rattle.pdl_law_parts.proofs.WellFormedArrays.{name_of_array, array_names_are, array_mem, mem_array, locked_all}
 use Rattle.pdl_law_sides.specs.Sides.{Sides}
 use Rattle.pdl_law_sides.specs.WholeNetlist.{IsWhole, reply_ports}
 use Rattle.pdl_law_follows.specs.Memories.{delayed_of, comb_of, net_infos}
-use Rattle.pdl_law_follows.proofs.Memories.{among_some, some_among, distinct_some, comb_delayed, as_many, comb_at}
+use Rattle.pdl_law_follows.proofs.Memories.{among_some, some_among, distinct_some, comb_delayed, as_many}
 use Rattle.pdl_law_follows.proofs.PortNames.{port_names_differ}
 use Rattle.pdl_law_follows.proofs.Ports.{AreAsked, by_kinds, shown_heads, replies_heads, names_are}
 use Rattle.pdl_law_follows.proofs.Arrays.{delayed_all, delayed_contained, pipe_array, agree_all, infos_same}
@@ -47,7 +43,6 @@ module _ (p : Pipe) (ms : List Mem) (declared : AreDeclared ms) (same : p.mems �
     (some : 1 ≤ length p.stages) (most : length p.stages ≤ 64) (ls : Locks) (vs : ℕ → View) (gates : Gates)
     (moves : ℕ → Signal) (sides : Sides) (n : Netlist)
     (well : IsWell (circuit_of n)) (made : IsWhole p (mem_names ms) ls vs gates moves sides (circuit_of n))
-    (in_order : (m : ℕ) → m < length p.mems → is_delayed (mem_at p m).kind ≡ false → ls.array m ≡ comb_place p m)
     (shapes : map shape_of n.arrays ≡ map shape_of_mem (comb_of ms))
     (wide : AreBitsWide vs gates moves (length p.stages)) (fit : CommitsFit made.laid.commits 0 ms)
     (asked : AreAsked made.asks 0 ms) (mems : n.mems ≡ net_infos ms) where
@@ -71,33 +66,11 @@ module _ (p : Pipe) (ms : List Mem) (declared : AreDeclared ms) (same : p.mems �
       ∙ shown_heads p ms same some made.laid.commits made.asks vs gates moves wide reach fit asked)
       ∙ sym (by_kinds (length p.stages) (map (port_mem false) (delayed_of ms)) (locked_of twice 0 ms))
 
-  -- an array whose memory has no lock has no write port
-  never_written : (k : ℕ) (m : Mem) → k < length n.arrays → IsArrayOf (comb_of ms) k (array_at (circuit_of n) k) m
-      → is_some m.lock ≡ false → (array_at (circuit_of n) k).writes ≡ []
-  unfolding write_signals
-  never_written k m l h e =
-      let count = sym (length-map n.arrays shape_of) ∙ ap length shapes ∙ length-map (comb_of ms) shape_of_mem in
-      let c = comb_at ms k (omega (arith, l, count)) in
-      let low : c.place < length p.mems = subst (λ (ys : List flat.Mem). c.place < length ys) (sym same) c.low in
-      let comb : is_delayed (mem_at p c.place).kind ≡ false = ap (λ (ys : List flat.Mem). is_delayed (slice_index_or ys c.place plain_mem).kind) same
-      ∙ c.comb in
-      let plain = ap (λ (ys : List flat.Mem). flat.has_lock (slice_index_or ys c.place plain_mem).lock) same ∙ c.lock ∙ h.lock ∙ e in
-      let none = made.laid.unwritten c.place low plain comb in
-      let place : ls.array c.place ≡ k =
-      in_order c.place low comb
-      ∙ ap
-      (λ (ys : List flat.Mem). Rattle.std.specs.Prelude.count_by Rattle.pdl_law.proofs.Places.answers_at_once (Rattle.std.specs.Prelude.take c.place ys))
-      same
-      ∙ c.count in
-      no_write (circuit_of n)
-      (array_at (circuit_of n) k).writes (ap (λ i. map (write_signal (circuit_of n)) (array_at (circuit_of n) i).writes) (sym place) ∙ none)
-
   array_fits : (k : ℕ) → k < length n.arrays → IsPipeArray (map (port_mem false) (delayed_of ms)) (locked_of twice 0 ms) (get_or n.arrays k no_array)
   array_fits k l =
       let w = array_mem n.arrays (comb_of ms) shapes k no_array l in
       let a = among_some answers_at_once ms w.0 w.1.among in
-      pipe_array twice ms (get_or n.arrays k no_array) w.0 declared.distinct reach (size w.0 a.0) a.0 (comb_delayed w.0 a.1)
-      (never_written k w.0 l w.1) w.1.shape
+      pipe_array twice ms (get_or n.arrays k no_array) w.0 declared.distinct reach (size w.0 a.0) a.0 (comb_delayed w.0 a.1) w.1.shape
 
   kept : (t : Bool) (m : Mem) → Among m ms → IsKept (map (port_mem false) (delayed_of ms)) n.arrays (port_mem t m)
   kept t m h = at (is_delayed m.kind) refl

@@ -1,10 +1,10 @@
 -- All that is promised of a run.
 use Rattle.std.specs.Prelude.{◌≡◌, ℕ, ◌<◌, Bool, List, length, take, slice_index}
 use Rattle.pdl_semantics.specs.Tree as tree
-use Rattle.pdl_semantics.specs.Flat.{arrays_of}
+use Rattle.pdl_semantics.specs.Flat.{Arrays, arrays_of}
 use Rattle.pdl_semantics.specs.Flatten.{flat}
 use Rattle.pdl_semantics.specs.Lines.{run_lines}
-use Rattle.pdl_semantics.specs.Promises.{Refines, Advances, KeepsPace}
+use Rattle.pdl_semantics.specs.Promises.{Refines, Advances, KeepsPace, DifferInAdvice, AdviceIsIdle}
 use Rattle.pdl_semantics.specs.UpdateFree.{UpdatesAreIdle}
 use Rattle.pdl_net.specs.declared.Netlist.{Netlist}
 use Rattle.pdl_law_parts.specs.Places.{delayed_count}
@@ -26,3 +26,7 @@ pub record IsRunOf (p : tree.Pipe) (n : Netlist) (image : List (List ℕ)) (sche
   pub pace : KeepsPace (flat p) (arrays_of (in_order (flat p) image)) (replies_in (flat p) schedule)
   -- without its updates the source writes the same, and what both commit, each with any replies, begins one list
   pub updates : (replies : List (List Bool)) → UpdatesAreIdle p (arrays_of (in_order (flat p) image)) (replies_in (flat p) schedule) replies
+  -- from another image, which differs in advisory memories alone, the threads write the same, and of what both runs commit, each with any replies, one begins with the other
+  pub advice : (other : Arrays) (replies : List (List Bool))
+      → DifferInAdvice (flat p) (arrays_of (in_order (flat p) image)) other
+      → AdviceIsIdle (flat p) (arrays_of (in_order (flat p) image)) other (replies_in (flat p) schedule) replies

@@ -9,7 +9,6 @@ ghost use Rattle.pdl_semantics.specs.Flatten.{flat};
 ghost use Rattle.pdl_rules.specs.Memories.{infos_of};
 ghost use Rattle.pdl_image.specs.Images.{IsImage, image as words_in};
 ghost use Rattle.pdl_rules.specs.Refusal.{KeepsRules};
-ghost use Rattle.pdl_rules.specs.Unbuilt.{IsBuilt};
 ghost use Rattle.pdl_source_paths.specs.Source.{is_source, is_named};
 ghost use Rattle.pdl_net.specs.declared.Netlist.{Netlist};
 ghost use Rattle.pdl_law_follows.specs.Memories.{taken_in_order};
@@ -20,15 +19,15 @@ ghost use Rattle.pdl_law_follows.specs.Promised.{IsRunOf};
 
 /// What follows an accepted source: from each image and with each schedule of replies it has the lines of the source's machine, it writes what the threads write that run one after another, its oldest thread moves in each cycle that leaves no request unanswered, and enough threads end. An image file gives its memories what it gives the source's, in another order, or is refused as it is for these.
 pub fn followed()
-    ensures turns { (p : Pipe) → KeepsRules p → IsBuilt p → IsTrue (is_source p) →
+    ensures turns { (p : Pipe) → KeepsRules p → IsTrue (is_source p) →
         IsTrue (is_named p) → (n : Netlist) → Follows p n → ShowsTurns p n }
-    ensures writes { (p : Pipe) → KeepsRules p → IsBuilt p → IsTrue (is_source p) →
+    ensures writes { (p : Pipe) → KeepsRules p → IsTrue (is_source p) →
         IsTrue (is_named p) → (n : Netlist) → Follows p n → RefinesThreads p n }
-    ensures moves { (p : Pipe) → KeepsRules p → IsBuilt p → IsTrue (is_source p) →
+    ensures moves { (p : Pipe) → KeepsRules p → IsTrue (is_source p) →
         IsTrue (is_named p) → (n : Netlist) → Follows p n → MovesOldest p n }
-    ensures ends { (p : Pipe) → KeepsRules p → IsBuilt p → IsTrue (is_source p) →
+    ensures ends { (p : Pipe) → KeepsRules p → IsTrue (is_source p) →
         IsTrue (is_named p) → (n : Netlist) → Follows p n → EndsThreads p n }
-    ensures runs { (p : Pipe) → KeepsRules p → IsBuilt p → IsTrue (is_source p) →
+    ensures runs { (p : Pipe) → KeepsRules p → IsTrue (is_source p) →
         IsTrue (is_named p) → (n : Netlist) → Follows p n → (image : List (List ℕ)) (schedule : List ℕ) →
         IsImage n.mems image → IsRunOf p n image schedule }
     ensures images { (p : Pipe) → KeepsRules p → (n : Netlist) → Follows p n → (text : List ℕ) →

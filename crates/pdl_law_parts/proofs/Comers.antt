@@ -4,12 +4,12 @@ use Rattle.std.specs.Prelude.{if◌then◌else◌, slice_index, slice_index_or, 
 use Rattle.std.proofs.lemmas.Bool.{false≢true, eqb-true, leb-true}
 use Rattle.std.proofs.lemmas.List.{length-replicate, length-map}
 use Rattle.pdl_word.specs.Words.{bit}
-use Rattle.pdl_semantics.specs.Flat.{Arrays, Next, Ends, Goes, Forks, Stmt, Stage, Pipe, start_env}
+use Rattle.pdl_semantics.specs.Flat.{Next, Ends, Goes, Forks, Stmt, Stage, Pipe, start_env}
 use Rattle.pdl_semantics.specs.Stages.{stage_at, goes_to, list_any, reserve_stage, commit_stage, is_verify, verify_stage}
 use Rattle.pdl_semantics.specs.Machine as machine
 use Rattle.pdl_semantics.specs.Machine.{Thread, deeds, held_before, is_held, with_kept}
 use Rattle.pdl_semantics.specs.Moves.{next_stage}
-use Rattle.pdl_semantics.specs.Cycle.{is_stage, born_thread, child_of, thread_after, or_then, with_reserves, all_releases, list_three, is_kept, squasher, with_advised, with_all_advised}
+use Rattle.pdl_semantics.specs.Cycle.{is_stage, born_thread, child_of, thread_after, or_then, with_reserves, all_releases, list_three, is_kept, squasher}
 use Rattle.pdl_semantics.specs.Sound.{entries_by}
 use Rattle.pdl_semantics.specs.SecondWrites.{reserves_twice}
 use Rattle.pdl_net.specs.Circuit.{State}
@@ -23,11 +23,12 @@ use Rattle.pdl_law_parts.specs.declared.Mark.TheVariants.{Held, Late}
 use Rattle.pdl_law_parts.specs.Lives.{row_uses, asks_mark, forks_by, lives_from, mark_from, verifies_from}
 use Rattle.pdl_law_parts.specs.Walk.{Locks, Birth, Walk, is_locked, one, zero_bit, both, is_on, values_at}
 use Rattle.pdl_law_parts.specs.Views.{View, Comer, branch, out_of, new_by, new_from, comers, first_coming}
+use Rattle.pdl_law_parts.specs.Advice.{IsAdvisedApart, AreAdvised}
 use Rattle.pdl_law_parts.specs.Served.{IsServed}
 use Rattle.pdl_law_parts.specs.Stands.{IsEnv, IsHolding, StandsFor, AreShort, IsSo, IsSeen, TellsLate, AreLate, child_in}
 use Rattle.pdl_law_parts.proofs.Signals.{mux_by, one_is, zero_is}
 use Rattle.pdl_law_parts.proofs.StageLooks.{lock_there}
-use Rattle.pdl_law_parts.proofs.Moves.{ready_of, lives_fork}
+use Rattle.pdl_law_parts.proofs.Moves.{ready_of, fork_value}
 use Rattle.pdl_law_parts.proofs.LockPorts.{both_is, moves_or_not, no_mover, one_mover}
 use Rattle.pdl_word.proofs.Lists.{zeros_at}
 use Rattle.pdl_semantics.proofs.Facts.{held_first}
@@ -145,12 +146,12 @@ args_at s (f ∷ fs) n (suc x) = args_at s fs n x
 module _ (p : Pipe) (ls : Locks) (vs : ℕ → View) (moves : ℕ → Signal) (s : State) (st : machine.State)
     (bits : List Bool) (leads : LeadsOn p) (by : IsByStages p st bits) (used : IsServed p st bits)
     (stands : StandsFor p ls vs s st) (seen : (j : ℕ) → j < length p.stages → IsSeen p vs moves s st bits j)
-    (stood : (k : ℕ) (t : Thread) → here p st bits k ≡ Some t → Stood st k t) (spared : Spares p st bits) where
+    (stood : (k : ℕ) (t : Thread) → here p st bits k ≡ Some t → Stood st k t) (spared : Spares p st bits) (apart : IsAdvisedApart p) where
   -- a thread that comes into stage q with what this brings
   pub record Brings (q : ℕ) (c : Comer) (u : Thread) : Type 0 where
     pub long : length u.env ≡ p.vars
-    pub env : IsEnv p q s c.vars (with_kept u.kept u.env)
-    pub advice : u.advice ≡ []
+    pub env : IsEnv p q s c.vars (with_kept u.advice (with_kept u.kept u.env))
+    pub advice : AreAdvised p u.advice
     pub held : IsHolding p q s c.marks (held_before q u.env p.stmts [])
     pub guess : verifies_from p q ≡ true → length u.guess ≡ length p.start → (i : ℕ) → i < length p.start → slice_index u.guess i ≡ (c.guess i).value s
     pub tickets : (m : ℕ) (e : is_locked p m ≡ true) → reserve_stage p m < q → q ≤ commit_stage p m
@@ -181,23 +182,8 @@ module _ (p : Pipe) (ls : Locks) (vs : ℕ → View) (moves : ℕ → Signal) (s
       at true (Some u) f go = f
       at false a f go = go a f
 
-  so_at : (k : ℕ) (t : Thread) → k < length p.stages → here p st bits k ≡ Some t → stage_moves p st bits k ≡ true → IsSo p k s (vs k).ended (deeds p st k t)
+  pub so_at : (k : ℕ) (t : Thread) → k < length p.stages → here p st bits k ≡ Some t → stage_moves p st bits k ≡ true → IsSo p k s (vs k).ended (deeds p st k t)
   so_at k t l h g = ((seen k l).follows t h).so (ready_of p st bits k t by l h g)
-
-  -- nobody who moves writes an advisory memory
-  pub none_advised : (n k : ℕ) (arrays : Arrays) → k + n ≡ length p.stages → with_all_advised (movers_from p st bits n k) arrays ≡ arrays
-  none_advised zero k arrays e = refl
-  none_advised (suc n) k arrays e =
-      let l : k < length p.stages = omega (arith, e) in
-      let rest = movers_from p st bits n (suc k) in
-      let more = none_advised n (suc k) arrays (omega (arith, e)) in
-      ⊎_elim
-      (λ (f : stage_moves p st bits k ≡ false). ap (λ ms. with_all_advised (ms ++ rest) arrays) (no_mover p st bits k f) ∙ more)
-      (λ (f : (t : Thread) × (here p st bits k ≡ Some t) × (stage_moves p st bits k ≡ true)).
-      ap (λ ms. with_all_advised (ms ++ rest) arrays) (one_mover p st bits k f.0 f.1 f.2)
-      ∙ ap (λ ws. with_advised ws (with_all_advised rest arrays)) (so_at k f.0 l f.1 f.2).advises
-      ∙ more)
-      (moves_or_not p st bits k)
 
   -- NEW THREADS
 
@@ -211,7 +197,7 @@ module _ (p : Pipe) (ls : Locks) (vs : ℕ → View) (moves : ℕ → Signal) (s
             (let e = length-append vals (replicate (p.vars - length vals) 0) in
             let z = length-replicate {A = ℕ} (p.vars - length vals) 0 in omega (arith, e, z, n, short));
         env = λ x live. args_at s b.args (p.vars - length vals) x;
-        advice = refl;
+        advice = tt;
         held = λ m a live. zero_is s ∙ ap (λ l. bit (is_held l m a)) (sym (held_first (start_env p vals) p.stmts []));
         guess = λ v e i l. absurd (omega (arith, e, l));
         tickets = λ m e low high. absurd (omega (arith, low));
@@ -358,7 +344,8 @@ module _ (p : Pipe) (ls : Locks) (vs : ℕ → View) (moves : ℕ → Signal) (s
       let so = so_at j f.0 l f.1 f.2 in
       let on : is_on (out_of p vs moves q j).comes s ≡ is_stage q (next_stage p j d) =
       both_is s (moves j) (branch (stage_at p j).next q (vs j).ended) true ((seen j l).leaves ∙ ap bit f.2)
-      ∙ on_branch (stage_at p j).next q (vs j).ended d.env (λ x e. so.env x (lives_fork p j x l e)) in
+      ∙ on_branch (stage_at p j).next q (vs j).ended d.env
+      (fork_value p apart j s (vs j).ended d l so) in
       let P : Option Thread → Type 0 = λ o. AreAlike q (if is_on (out_of p vs moves q j).comes s then Some (out_of p vs moves q j) else None) o in
       let Q : Bool → Type 0 =
       λ b. AreAlike q (if b then Some (out_of p vs moves q j) else None)

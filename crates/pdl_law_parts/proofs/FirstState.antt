@@ -22,6 +22,7 @@ use Rattle.pdl_law_parts.specs.declared.Mark.TheVariants.{Held}
 use Rattle.pdl_law_parts.specs.Lives.{lives_from, mark_from}
 use Rattle.pdl_law_parts.specs.Walk.{Locks, is_locked}
 use Rattle.pdl_law_parts.specs.Views.{Gates, View}
+use Rattle.pdl_law_parts.specs.Advice.{AreAdvised}
 use Rattle.pdl_law_parts.specs.Compiled.{IsLaid}
 use Rattle.pdl_law_parts.specs.Stands.{IsEnv, IsHolding, StandsLock, StandsFor, IsGuess}
 use Rattle.pdl_law_parts.proofs.Comers.{signals_are}
@@ -104,10 +105,11 @@ module _ (p : Pipe) (ls : Locks) (vs : ℕ → View) (gates : Gates) (moves : �
       ∙ (let e = length-append p.start (replicate (p.vars - length p.start) 0) in
       let z = length-replicate {A = ℕ} (p.vars - length p.start) 0 in omega (arith, e, z, short))
 
-  env_first : (k : ℕ) (u : Thread) → slot first_state k ≡ Some u → IsEnv p k s (vs k).kept (with_kept u.kept u.env)
+  env_first : (k : ℕ) (u : Thread) → slot first_state k ≡ Some u → IsEnv p k s (vs k).kept (with_kept u.advice (with_kept u.kept u.env))
   env_first k u h x live =
       let f = is_first p image k u h in
-      ap (λ ks. slice_index (with_kept ks u.env) x) f.4
+      ap (λ ks. slice_index (with_kept ks (with_kept u.kept u.env)) x) f.5
+      ∙ ap (λ ks. slice_index (with_kept ks u.env) x) f.4
       ∙ ap (λ e. slice_index e x) f.1
       ∙ sym (made.begins.vars x (subst (λ i. lives_from p i x ≡ true) f.0 live) s regs)
       ∙ ap (λ i. ((vs i).kept x).value s) (sym f.0)
@@ -155,7 +157,7 @@ module _ (p : Pipe) (ls : Locks) (vs : ℕ → View) (gates : Gates) (moves : �
     valid = valid_first;
     long = long_first;
     env = env_first;
-    advice = λ k u h. (is_first p image k u h).5;
+    advice = λ k u h. subst (AreAdvised p) (sym (is_first p image k u h).5) tt;
     held = held_at_first;
     guess = guess_first;
     words = words;

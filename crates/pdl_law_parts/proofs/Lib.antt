@@ -7,9 +7,11 @@ pub mod Signals
 pub mod Reservations
 pub mod LateLocations
 pub mod StageLooks
+pub mod AdvisedValues
 pub mod StageRow
 pub mod StageLocks
 pub mod StageCalls
+pub mod StageAdvice
 pub mod StageStep
 pub mod LockUse
 pub mod AskedWrites
@@ -19,6 +21,7 @@ pub mod Moves
 pub mod LockPorts
 pub mod LockActs
 pub mod LockStep
+pub mod AdvisedWords
 pub mod Comers
 pub mod NextState
 pub mod FirstState

@@ -6,7 +6,7 @@ use Rattle.pdl_word.specs.Words.{bit}
 use Rattle.pdl_semantics.specs.Flat.{Next, Ends, Goes, Forks, Stage, Pipe}
 use Rattle.pdl_semantics.specs.Stages.{stage_at, goes_to, last_stage, list_any}
 use Rattle.pdl_semantics.specs.Machine as machine
-use Rattle.pdl_semantics.specs.Machine.{Thread, deeds, with_kept}
+use Rattle.pdl_semantics.specs.Machine.{Thread, Deeds, deeds, with_kept}
 use Rattle.pdl_semantics.specs.Moves.{is_empty, next_stage}
 use Rattle.pdl_net.specs.Circuit.{Circuit, State}
 use Rattle.pdl_net.specs.Signal.{Signal}
@@ -15,14 +15,16 @@ use Rattle.pdl_machine_facts.specs.Slots.{LeadsOn, slot, here, later_acts, locks
 use Rattle.pdl_machine_facts.specs.Cycle.{IsByStages}
 use Rattle.pdl_machine_facts.proofs.StagewiseActs.{some_here}
 use Rattle.pdl_law_parts.specs.Lives.{forks_by, lives_from}
-use Rattle.pdl_law_parts.specs.Walk.{Locks, one, both}
+use Rattle.pdl_law_parts.specs.Walk.{Locks, Walk, one, both}
 use Rattle.pdl_law_parts.specs.Views.{Gates, View, free, way_on, moves_where}
 use Rattle.pdl_law_parts.specs.Compiled.{IsLaid}
 use Rattle.pdl_law_parts.specs.Rows.{HaveRows}
+use Rattle.pdl_law_parts.specs.Advice.{IsAdvisedApart}
 use Rattle.pdl_law_parts.specs.Served.{IsServed}
 use Rattle.pdl_law_parts.specs.Stands.{StandsFor, IsEnv, IsSo, Follows, IsSeen}
 use Rattle.pdl_law_parts.specs.Beside.{TellsGate}
 use Rattle.pdl_law_parts.proofs.Signals.{mux_at, mux_by, both_at, one_is}
+use Rattle.pdl_law_parts.proofs.AdvisedValues.{plain_env}
 use Rattle.pdl_law_parts.proofs.StageLaw.{stage_follows}
 
 -- a fork's variable lives in its stage
@@ -33,8 +35,13 @@ any_dropped test (x ∷ xs) zero l e = ap (λ b. b || list_any test xs) e
 any_dropped test (x ∷ xs) (suc k) l e = any_dropped test xs k (omega (arith, l)) e
 
 -- the variable by which a stage forks lives from that stage on
-pub lives_fork : (p : Pipe) (k x : ℕ) → k < length p.stages → forks_by (stage_at p k).next x ≡ true → lives_from p k x ≡ true
+lives_fork : (p : Pipe) (k x : ℕ) → k < length p.stages → forks_by (stage_at p k).next x ≡ true → lives_from p k x ≡ true
 lives_fork p k x l e = or_right _ _ (any_dropped (λ (s : Stage). forks_by s.next x) p.stages k l e)
+
+-- the variable by which a stage forks has its signal's value among those of the thread alone
+pub fork_value : (p : Pipe) → IsAdvisedApart p → (k : ℕ) (s : State) (w : Walk) (d : Deeds) → k < length p.stages → IsSo p k s w d
+    → (x : ℕ) → forks_by (stage_at p k).next x ≡ true → slice_index d.env x ≡ (w.vars x).value s
+fork_value p apart k s w d l so x e = plain_env p k s w d x so (lives_fork p k x l e) (apart.forks k x e)
 
 regroup : (r n a e : Bool) → (r && ((n && a) && e)) ≡ ((n && r) && (a && e))
 regroup true true a e = refl
@@ -55,16 +62,16 @@ ready_of p st bits k t by l h g = second (is_empty t.awaits) (locks_ready p st t
 
 -- each stage in a cycle, where the walks begin with the answers of the cycle and the gates tell what they should
 module _ (p : Pipe) (ls : Locks) (vs : ℕ → View) (gates : Gates) (moves : ℕ → Signal) (c : Circuit)
-    (made : IsLaid p ls vs gates moves c) (all : HaveRows p) (leads : LeadsOn p)
+    (made : IsLaid p ls vs gates moves c) (all : HaveRows p) (apart : IsAdvisedApart p) (leads : LeadsOn p)
     (s : State) (st : machine.State) (bits : List Bool) (suits : Suits c s) (stands : StandsFor p ls vs s st)
     (used : IsServed p st bits) (by : IsByStages p st bits)
-    (answers : (k : ℕ) (t : Thread) → k < length p.stages → here p st bits k ≡ Some t → IsEnv p k s (vs k).begun.vars (with_kept t.kept t.env))
+    (answers : (k : ℕ) (t : Thread) → k < length p.stages → here p st bits k ≡ Some t → IsEnv p k s (vs k).begun.vars (with_kept t.advice (with_kept t.kept t.env)))
     (tells : (k : ℕ) (t : Thread) → k < length p.stages → here p st bits k ≡ Some t → TellsGate p vs gates moves s st bits k t) where
   follows_at : (k : ℕ) (t : Thread) → k < length p.stages → here p st bits k ≡ Some t → Follows p k s st t.number (vs k).ended (deeds p st k t)
   follows_at k t l h =
       let x = made.stages k l in
       stage_follows c p ls vs s st bits suits (λ m e. (made.locks m e).kind)
-      (λ m e. (made.locks m e).room) (λ m e. (made.locks m e).room2) made.twice stands used all k t x.rows x.fresh x.guess_long (answers k t l h) h
+      (λ m e. (made.locks m e).room) (λ m e. (made.locks m e).room2) made.twice stands used all apart k t x.rows x.fresh x.guess_long (answers k t l h) h
 
   module _ (k : ℕ) (l : k < length p.stages) (later : (j : ℕ) → k < j → j < length p.stages → IsSeen p vs moves s st bits j) where
     free_is : (q : ℕ) → k < q → q < length p.stages → (free vs moves q).value s ≡ bit (is_none (slot st q) || stage_moves p st bits q)
@@ -80,7 +87,8 @@ module _ (p : Pipe) (ls : Locks) (vs : ℕ → View) (gates : Gates) (moves : �
 
     way_is : (t : Thread) → IsSo p k s (vs k).ended (deeds p st k t)
         → (way_on (stage_at p k).next (free vs moves) (vs k).ended).value s ≡ bit (may_enter p st bits (next_stage p k (deeds p st k t)))
-    way_is t so = at (stage_at p k).next (λ q e. leads.up k q (deeds p st k t).env l e) (λ x e. so.env x (lives_fork p k x l e))
+    way_is t so = at (stage_at p k).next (λ q e. leads.up k q (deeds p st k t).env l e)
+        (fork_value p apart k s (vs k).ended (deeds p st k t) l so)
       where
         env : List ℕ
         env = (deeds p st k t).env

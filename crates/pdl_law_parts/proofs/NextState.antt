@@ -4,13 +4,13 @@ use Rattle.std.specs.Prelude.{if◌then◌else◌, slice_index, slice_index_or, 
 use Rattle.std.proofs.lemmas.Bool.{cases_lt, leb-true}
 use Rattle.std.proofs.lemmas.List.{length-map, get_or_past}
 use Rattle.pdl_word.specs.Words.{bit}
-use Rattle.pdl_semantics.specs.Flat.{Arrays, Pipe, is_delayed}
+use Rattle.pdl_semantics.specs.Flat.{Pipe, is_delayed, is_advisory}
 use Rattle.pdl_semantics.specs.Stages.{plain_mem, mem_at, reserve_stage, commit_stage}
 use Rattle.pdl_semantics.specs.Machine as machine
 use Rattle.pdl_semantics.specs.Machine.{Thread, Pending, held_before, is_held, with_kept}
 use Rattle.pdl_semantics.specs.Moves.{next_stage}
-use Rattle.pdl_semantics.specs.Cycle.{cycle, or_then, if_kept, is_stage, thread_after, squasher, is_kept as removed, with_reserves, all_releases, list_two, list_three, taken_out, with_commit, with_all_advised, entries_left}
-use Rattle.pdl_net.specs.Circuit.{Circuit, State, HasArray, HasReg}
+use Rattle.pdl_semantics.specs.Cycle.{cycle, or_then, if_kept, is_stage, thread_after, squasher, is_kept as removed, with_reserves, all_releases, list_two, list_three, taken_out, with_commit, entries_left}
+use Rattle.pdl_net.specs.Circuit.{Circuit, State, HasArray, HasReg, array_depth}
 use Rattle.pdl_net.specs.Signal.{Signal, no_signal, mux_signal}
 use Rattle.pdl_net.specs.Cycle.{next_regs, next_arrays}
 use Rattle.pdl_net.specs.Well.{Suits}
@@ -30,6 +30,7 @@ use Rattle.pdl_law_parts.specs.declared.Mark.TheVariants.{Held, Late}
 use Rattle.pdl_law_parts.specs.Lives.{mark_from}
 use Rattle.pdl_law_parts.specs.Walk.{Locks, is_locked, one, zero_bit}
 use Rattle.pdl_law_parts.specs.Views.{Gates, View, Comer, comers, first_coming}
+use Rattle.pdl_law_parts.specs.Advice.{IsAdvisedApart, AreAdvised}
 use Rattle.pdl_law_parts.specs.Compiled.{IsLaid, Becomes}
 use Rattle.pdl_law_parts.specs.Served.{IsServed}
 use Rattle.pdl_law_parts.specs.Stands.{IsEnv, IsHolding, TellsLate, AreLate, StandsLock, StandsFor, IsSeen, IsSquashed, IsGuess}
@@ -37,7 +38,8 @@ use Rattle.pdl_law_parts.proofs.Signals.{mux_at, mux_by, one_is, zero_is}
 use Rattle.pdl_law_parts.proofs.StageLooks.{plain_is, lock_there}
 use Rattle.pdl_law_parts.proofs.LockUse.{as_reserved, IsAlike, alike_count, alike_has, alike_place, alike_once, alike_own, writes_alike, own_dropped, own_left}
 use Rattle.pdl_law_parts.proofs.LockStep.{words_next, words_long, words_same, few_next, stands_next}
-use Rattle.pdl_law_parts.proofs.Comers.{first_come, brought, picked_is, AreAlike, Brings, none_advised, comers_alike, signal_at, signals_are, Spares}
+use Rattle.pdl_law_parts.proofs.AdvisedWords.{advised_words}
+use Rattle.pdl_law_parts.proofs.Comers.{first_come, brought, picked_is, AreAlike, Brings, so_at, comers_alike, signal_at, signals_are, Spares}
 use Rattle.pdl_semantics.specs.PendingLists.{count_older}
 use Rattle.pdl_semantics.specs.Sound.{entries_by}
 
@@ -91,7 +93,10 @@ module _ (p : Pipe) (ls : Locks) (vs : ℕ → View) (gates : Gates) (moves : �
     (seen : (j : ℕ) → j < length p.stages → IsSeen p vs moves s st bits j)
     (stood : (k : ℕ) (t : Thread) → here p st bits k ≡ Some t → Stood st k t)
     (squashed : IsSquashed p ls vs gates s st bits)
-    (answers : (k : ℕ) (t : Thread) → k < length p.stages → here p st bits k ≡ Some t → IsEnv p k s (vs k).begun.vars (with_kept t.kept t.env)) where
+    (answers : (k : ℕ) (t : Thread) → k < length p.stages → here p st bits k ≡ Some t → IsEnv p k s (vs k).begun.vars (with_kept t.advice (with_kept t.kept t.env)))
+    (apart : IsAdvisedApart p)
+    (plain : (m : ℕ) → m < length p.mems → is_advisory (mem_at p m).kind ≡ false
+    → (cycle p st bits).arrays m ≡ with_commit st.arrays m (taken_out st (moving p st bits) m) m) where
   abbrev next : machine.State
   next = cycle p st bits
 
@@ -134,13 +139,13 @@ module _ (p : Pipe) (ls : Locks) (vs : ℕ → View) (gates : Gates) (moves : �
 
   -- a thread in a stage came into it with what a comer brings, or stayed
   pub data Came (q : ℕ) (u : Thread) : Type 0 where
-    came : (o : Comer) → first_come s (comers p vs moves q) ≡ Some o → Brings p ls vs moves s st bits leads by used stands seen stood spared q o u → Came q u
+    came : (o : Comer) → first_come s (comers p vs moves q) ≡ Some o → Brings p ls vs moves s st bits leads by used stands seen stood spared apart q o u → Came q u
     stayed : first_come s (comers p vs moves q) ≡ None → stage_moves p st bits q ≡ false → here p st bits q ≡ Some u → removed sq u.number ≡ true → Came q u
 
   came_how : (q : ℕ) (u : Thread) → q < length p.stages → slot next q ≡ Some u → Came q u
   came_how q u l e =
       at (first_come s (comers p vs moves q)) refl (coming q)
-      (stage_moves p st bits q) refl (comers_alike p ls vs moves s st bits leads by used stands seen stood spared q l)
+      (stage_moves p st bits q) refl (comers_alike p ls vs moves s st bits leads by used stands seen stood spared apart q l)
       (sym (slot_next q l) ∙ e)
     where
       none_some : None ≡ Some u → ⊥
@@ -150,20 +155,20 @@ module _ (p : Pipe) (ls : Locks) (vs : ℕ → View) (gates : Gates) (moves : �
       same t h = cc h
 
       at : (o : Option Comer) → first_come s (comers p vs moves q) ≡ o → (a : Option Thread) (g : Bool)
-          → stage_moves p st bits q ≡ g → AreAlike p ls vs moves s st bits leads by used stands seen stood spared q o a
+          → stage_moves p st bits q ≡ g → AreAlike p ls vs moves s st bits leads by used stands seen stood spared apart q o a
           → or_then a (if_kept sq (if g then None else here p st bits q)) ≡ Some u → Came q u
       at None f None true i h e = absurd (none_some e)
       at None f None false i h e = let z = if_stays_is sq (here p st bits q) u e in stayed f i z.0 z.1
       at None f (Some t) g i h e = absurd h
       at (Some o) f None g i h e = absurd h
-      at (Some o) f (Some t) g i h e = came o f (subst (Brings p ls vs moves s st bits leads by used stands seen stood spared q o) (same t e) h)
+      at (Some o) f (Some t) g i h e = came o f (subst (Brings p ls vs moves s st bits leads by used stands seen stood spared apart q o) (same t e) h)
 
   -- whether somebody stands in it
   holds_next : (q : ℕ) → q < length p.stages
       → brought s (λ (o : Comer). one) (mux_signal (moves q) zero_bit (mux_signal (gates.kill q) zero_bit (vs q).valid)) (first_come s (comers p vs moves q))
       ≡ bit (is_some (slot next q))
   holds_next q l =
-      at (first_come s (comers p vs moves q)) (coming q) (comers_alike p ls vs moves s st bits leads by used stands seen stood spared q l)
+      at (first_come s (comers p vs moves q)) (coming q) (comers_alike p ls vs moves s st bits leads by used stands seen stood spared apart q l)
       ∙ ap (λ o. bit (is_some o)) (sym (slot_next q l))
     where
       still : Signal
@@ -195,7 +200,7 @@ module _ (p : Pipe) (ls : Locks) (vs : ℕ → View) (gates : Gates) (moves : �
       settled false e = is_left (here p st bits q) refl e
 
       at : (o : Option Comer) (a : Option Thread)
-          → AreAlike p ls vs moves s st bits leads by used stands seen stood spared q o a
+          → AreAlike p ls vs moves s st bits leads by used stands seen stood spared apart q o a
           → brought s (λ (o : Comer). one) (mux_signal (moves q) zero_bit still) o ≡ bit (is_some (or_then a (stays q)))
       at None None h =
           mux_at s (moves q) zero_bit still (stage_moves p st bits q) (seen q l).leaves
@@ -232,7 +237,7 @@ module _ (p : Pipe) (ls : Locks) (vs : ℕ → View) (gates : Gates) (moves : �
         at (came o f b) = b.long
         at (stayed f g h r) = let v = stood q u h in ap length (sym v.env) ∙ stands.long q v.thread v.slot
 
-    env_next : (q : ℕ) (u : Thread) → slot next q ≡ Some u → IsEnv p q t (vs q).kept (with_kept u.kept u.env)
+    env_next : (q : ℕ) (u : Thread) → slot next q ≡ Some u → IsEnv p q t (vs q).kept (with_kept u.advice (with_kept u.kept u.env))
     env_next q u e x live = at (came_how q u l e)
       where
         l : q < length p.stages
@@ -241,16 +246,16 @@ module _ (p : Pipe) (ls : Locks) (vs : ℕ → View) (gates : Gates) (moves : �
         now : ((vs q).kept x).value t ≡ brought s (λ (o : Comer). o.vars x) ((vs q).begun.vars x) (first_come s (comers p vs moves q))
         now = becomes q (λ (o : Comer). o.vars x) ((vs q).kept x) ((vs q).begun.vars x) ((made.stages q l).vars x live)
 
-        at : Came q u → slice_index (with_kept u.kept u.env) x ≡ ((vs q).kept x).value t
+        at : Came q u → slice_index (with_kept u.advice (with_kept u.kept u.env)) x ≡ ((vs q).kept x).value t
         at (came o f b) = b.env x live ∙ ap (brought s (λ (o : Comer). o.vars x) ((vs q).begun.vars x)) (sym f) ∙ sym now
         at (stayed f g h r) = answers q u l h x live ∙ ap (brought s (λ (o : Comer). o.vars x) ((vs q).begun.vars x)) (sym f) ∙ sym now
 
-    advice_next : (q : ℕ) (u : Thread) → slot next q ≡ Some u → u.advice ≡ []
+    advice_next : (q : ℕ) (u : Thread) → slot next q ≡ Some u → AreAdvised p u.advice
     advice_next q u e = at (came_how q u (stage_low q u e) e)
       where
-        at : Came q u → u.advice ≡ []
+        at : Came q u → AreAdvised p u.advice
         at (came o f b) = b.advice
-        at (stayed f g h r) = let v = stood q u h in sym v.advice ∙ stands.advice q v.thread v.slot
+        at (stayed f g h r) = let v = stood q u h in subst (AreAdvised p) v.advice (stands.advice q v.thread v.slot)
 
     mark_now : (q : ℕ) → q < length p.stages → (mark : Mark) (m a : ℕ) → mark_from p q mark m a ≡ true
         → ((vs q).begun.marks mark m a).value t
@@ -295,9 +300,6 @@ module _ (p : Pipe) (ls : Locks) (vs : ℕ → View) (gates : Gates) (moves : �
                 ∙ ap (brought s (λ (o : Comer). o.guess i) mine) (sym f) ∙ sym now
 
     -- MEMORIES
-
-    unadvised : (arrays : Arrays) → with_all_advised (moving p st bits) arrays ≡ arrays
-    unadvised arrays = none_advised p ls vs moves s st bits leads by used stands seen stood spared (length p.stages) 0 arrays (omega arith)
 
     own_next : (own : Own) → ((r : ℕ) → own.from ≤ r → r < own.to → HasReg c r) → ((i : ℕ) → own.first ≤ i → i < own.last → HasArray c i) → IsNext c own s t
     own_next own has has_array =
@@ -448,8 +450,7 @@ module _ (p : Pipe) (ls : Locks) (vs : ℕ → View) (gates : Gates) (moves : �
             words = words;
             long = (let z = stand.long in omega (arith, long, z));
             same =
-                λ a low. ap (λ (f : ℕ → ℕ). f a) (by.arrays m (lock_there p m e))
-                ∙ ap (λ (x : Arrays). x m a) (unadvised (with_commit st.arrays m (taken_out st (moving p st bits) m)))
+                λ a low. ap (λ (f : ℕ → ℕ). f a) (plain m (lock_there p m e) (apart.locks m e))
                 ∙ words_same p ls vs moves s st bits by used seen stood m e stand gates squashed a low;
             stands = stands';
             few = subst (λ es. length es ≤ ls.size m) (sym list) (few_next p ls vs moves s st bits by used seen stood m e stand gates squashed x.kind);
@@ -457,22 +458,36 @@ module _ (p : Pipe) (ls : Locks) (vs : ℕ → View) (gates : Gates) (moves : �
             late = late_next;
           }
 
-    -- a memory without lock keeps its words
+    -- how many words an array has
+    long_array : (i : ℕ) → HasArray c i → length (slice_index_or s.arrays i []) ≡ array_depth c i
+    unfolding HasArray array_depth
+    long_array i h = suits.depth i h
+
+    -- a memory without lock gets the words that are written by advice
     word_next : (m : ℕ) → is_locked p m ≡ false → is_delayed (mem_at p m).kind ≡ false → (a : ℕ) → a < (mem_at p m).depth
         → next.arrays m a ≡ slice_index (slice_index_or t.arrays (ls.array m) []) a
     word_next m e comb a low =
         let l = mem_there p m a low in
+        let before = with_commit st.arrays m (taken_out st (moving p st bits) m) in
+        let words = slice_index_or s.arrays (ls.array m) [] in
         let own : Own = record { from = 0; to = 0; first = ls.array m; last = ls.array m + 1 } in
-        let kept =
+        let written =
         (own_next own (λ r lo hi. absurd (omega (arith, hi)))
         (λ i lo hi. (let e : ls.array m ≡ i = omega (arith, lo, hi) in subst (HasArray c) e (made.arrays m l comb)))).arrays
         (ls.array m)
         (omega arith) (omega arith) in
+        let long = long_array (ls.array m) (made.arrays m l comb) ∙ made.deep m l e comb in
+        let advised =
+        advised_words p vs moves s st bits (λ k i. (seen k i).leaves)
+        (λ k u i h g. (so_at p ls vs moves s st bits leads by used stands seen stood spared apart k u i h g).advises)
+        m (mem_at p m).depth (length p.stages) 0 before words (omega arith) (
+          omega (arith, long),
+          λ a low. ap (λ k. with_commit st.arrays m (take k (list_two st (moving p st bits) m)) m a) (used.in_use.unreleased m (plain_is p m e))
+              ∙ stands.words m e comb a low,
+        ) in
         ap (λ (f : ℕ → ℕ). f a) (by.arrays m l)
-        ∙ ap (λ (x : Arrays). x m a) (unadvised (with_commit st.arrays m (taken_out st (moving p st bits) m)))
-        ∙ ap (λ k. with_commit st.arrays m (take k (list_two st (moving p st bits) m)) m a) (used.in_use.unreleased m (plain_is p m e))
-        ∙ stands.words m e comb a low
-        ∙ sym (ap (λ ws. slice_index ws a) (kept ∙ ap (λ ws. after_writes s ws (slice_index_or s.arrays (ls.array m) [])) (made.unwritten m l e comb)))
+        ∙ advised.1 a low
+        ∙ sym (ap (λ ws. slice_index ws a) (written ∙ ap (λ ps. after_writes s ps words) (made.advised m l e comb)))
 
     -- the state after the cycle stands for the machine's next state
     pub stands_after : StandsFor p ls vs t next

@@ -6,9 +6,9 @@ use Rattle.pdl_semantics.specs.Machine.{Reserved, Written, reserves_of}
 use Rattle.pdl_semantics.specs.Machine as machine
 use Rattle.pdl_net.specs.Circuit.{State}
 use Rattle.pdl_net.specs.Signal.{Signal, const_value, mux_value, mux_signal}
-use Rattle.pdl_law_parts.specs.Walk.{Reservation, Put, Letting, one, zero_bit, both, if_on, is_on, reserved_signal, Ask}
+use Rattle.pdl_law_parts.specs.Walk.{Reservation, Put, Letting, one, zero_bit, both, if_on, is_on, reserved_signal, Ask, Advising}
 use Rattle.pdl_lockapi.specs.Laws.{FitsIn}
-use Rattle.pdl_law_parts.specs.Stands.{AddressesFit, AreBits, reserved_in, written_in, let_in, asked_in}
+use Rattle.pdl_law_parts.specs.Stands.{AddressesFit, AreBits, reserved_in, written_in, let_in, asked_in, advised_in}
 
 -- a choice by a bit has the value of the arm that the bit takes
 pub mux_at : (s : State) (a b c : Signal) (x : Bool) → a.value s ≡ bit x → (mux_signal a b c).value s ≡ (if x then b.value s else c.value s)
@@ -157,4 +157,22 @@ asked_more s (x ∷ qs) q = at (is_on x.on s) (asked_more s qs q)
         → (if b then record { mem = x.mem; var = x.var; address = x.addr.value s } ∷ asked_in s (qs ++ q ∷ []) else asked_in s (qs ++ q ∷ []))
         ≡ (if b then record { mem = x.mem; var = x.var; address = x.addr.value s } ∷ asked_in s qs else asked_in s qs) ++ more
     at true e = ap (λ k. record { mem = x.mem; var = x.var; address = x.addr.value s } ∷ k) e
+    at false e = e
+
+-- with an advisory write more, what is written is that of the others, and its own where its condition is 1
+pub advised_more : (s : State) (xs : List Advising) (y : Advising)
+    → advised_in s (xs ++ y ∷ []) ≡ advised_in s xs
+    ++ (if is_on y.on s then record { mem = y.mem; address = y.addr.value s; value = y.value.value s } ∷ [] else [])
+advised_more s [] y = refl
+advised_more s (x ∷ xs) y = at (is_on x.on s) (advised_more s xs y)
+  where
+    more : List machine.Advised
+    more = if is_on y.on s then record { mem = y.mem; address = y.addr.value s; value = y.value.value s } ∷ [] else []
+
+    mine : machine.Advised
+    mine = record { mem = x.mem; address = x.addr.value s; value = x.value.value s }
+
+    at : (b : Bool) → advised_in s (xs ++ y ∷ []) ≡ advised_in s xs ++ more
+        → (if b then mine ∷ advised_in s (xs ++ y ∷ []) else advised_in s (xs ++ y ∷ [])) ≡ (if b then mine ∷ advised_in s xs else advised_in s xs) ++ more
+    at true e = ap (λ k. mine ∷ k) e
     at false e = e

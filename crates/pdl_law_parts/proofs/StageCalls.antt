@@ -6,17 +6,19 @@ use Rattle.pdl_word.specs.Words.{bit}
 use Rattle.pdl_semantics.specs.Flat.{Expr, Call, Guard, Stmt, Pipe, all_hold, values_of, DelayedRead, SpecCall, Verify, SpecCheck, SpecBarrier}
 use Rattle.pdl_semantics.specs.Stages.{list_any, is_verify, verify_stage}
 use Rattle.pdl_semantics.specs.Machine as machine
-use Rattle.pdl_semantics.specs.Machine.{Deeds, with_kept, all_values, same_args, after_verify}
+use Rattle.pdl_semantics.specs.Machine.{Deeds, all_values, same_args, after_verify}
 use Rattle.pdl_net.specs.Circuit.{Circuit, State}
 use Rattle.pdl_net.specs.Signal.{Signal, mux_signal}
 use Rattle.pdl_theory_turns.proofs.Guesses.{same_args_eq}
 use Rattle.pdl_machine_facts.specs.Slots.{locks_ready}
-use Rattle.pdl_law_parts.specs.Lives.{are_using, guards_use, lives_from, verifies_from}
+use Rattle.pdl_law_parts.specs.Lives.{are_using, guards_use, lives_from}
 use Rattle.pdl_law_parts.specs.Walk.{Locks, Row, Walk, one, both, walk_after, values_at}
+use Rattle.pdl_law_parts.specs.Advice.{is_advised_in}
 use Rattle.pdl_law_parts.specs.Views.{View}
 use Rattle.pdl_law_parts.specs.Stands.{IsSo, child_in, IsGuess, asked_in}
 use Rattle.pdl_law_parts.proofs.Signals.{mux_at, both_at, on_is, one_is, asked_more}
-use Rattle.pdl_law_parts.proofs.StageRow.{IsAround, done, quiet, is_taken, is_not, on_at, values_same, FollowsOp}
+use Rattle.pdl_law_parts.proofs.AdvisedValues.{plain_env}
+use Rattle.pdl_law_parts.proofs.StageRow.{guards_live, IsAround, done, quiet, is_taken, is_not, on_at, values_same, FollowsOp}
 use Rattle.pdl_word.proofs.Numbers.{eqb_self}
 
 -- up to V a row that verifies is still to come
@@ -37,8 +39,8 @@ module _ (c : Circuit) (p : Pipe) (ls : Locks) (vs : ℕ → View) (s : State) (
   follows_call args j gs r w d live on row here fine may q =
       quiet c p ls vs s st k thread around gs r w d glive on q (Call args) (walk_after (Call args) r ls w) refl refl (λ b. same b) (λ h z b f. so h b f)
     where
-      glive : (z : ℕ) → guards_use gs z ≡ true → lives_from p k z ≡ true
-      glive z u = live.vars z (or_left (guards_use gs z) (are_using args z) u)
+      glive : (z : ℕ) → guards_use gs z ≡ true → (lives_from p k z ≡ true) × (is_advised_in p z ≡ false)
+      glive = guards_live p k (record { stage = j; guards = gs; op = Call args }) live
 
       same : (b : Bool) → (locks_ready p st thread (done st thread b (Call args) d) ≡ locks_ready p st thread d)
           × ((done st thread b (Call args) d).reserves ≡ d.reserves)
@@ -51,7 +53,7 @@ module _ (c : Circuit) (p : Pipe) (ls : Locks) (vs : ℕ → View) (s : State) (
           ap (λ l. Some l)
           (values_same c p ls vs s st k thread around args r.args w d.env
           (row.1 s around.suits (is_taken c p ls vs s st k thread around gs r w d glive on q h f))
-          (λ e i y u. h.env y (live.vars y (or_right (guards_use gs y) (are_using args y) (i y u)))))
+          (λ e i y u. let l = or_right (guards_use gs y) (are_using args y) (i y u) in plain_env p k s w d y h (live.vars y l) (live.plain y l)))
           ∙ ap (λ c. if c then Some (map (λ (f : Signal). f.value s) r.args) else child_in s w.births)
           (sym (on_is s r.on true (on_at c p ls vs s st k thread around gs r w d glive on q h ∙ ap bit f)))
       child_at h false f =
@@ -107,8 +109,8 @@ module _ (c : Circuit) (p : Pipe) (ls : Locks) (vs : ℕ → View) (s : State) (
       quiet c p ls vs s st k thread around gs r w d glive on q (DelayedRead y m a)
       (walk_after (DelayedRead y m a) r ls w) refl refl (λ b. same b) (λ h z b f. so h b f)
     where
-      glive : (z : ℕ) → guards_use gs z ≡ true → lives_from p k z ≡ true
-      glive z u = live.vars z (or_left (guards_use gs z) (a == z) u)
+      glive : (z : ℕ) → guards_use gs z ≡ true → (lives_from p k z ≡ true) × (is_advised_in p z ≡ false)
+      glive = guards_live p k (record { stage = j; guards = gs; op = DelayedRead y m a }) live
 
       same : (b : Bool) → (locks_ready p st thread (done st thread b (DelayedRead y m a) d) ≡ locks_ready p st thread d)
           × ((done st thread b (DelayedRead y m a) d).reserves ≡ d.reserves)
@@ -126,7 +128,9 @@ module _ (c : Circuit) (p : Pipe) (ls : Locks) (vs : ℕ → View) (s : State) (
       asks_at : IsSo p k s w d → (b : Bool) → all_hold gs d.env ≡ b
           → (done st thread b (DelayedRead y m a) d).asks ≡ asked_in s (w.asks ++ record { mem = m; var = y; on = r.on; addr = w.vars a } ∷ [])
       asks_at h true f =
-          ap₂ (λ l v. l ++ record { mem = m; var = y; address = v } ∷ []) h.asks (h.env a (live.vars a (or_right (guards_use gs a) (a == a) (eqb_self a))))
+          ap₂ (λ l v. l ++ record { mem = m; var = y; address = v } ∷ []) h.asks
+          (plain_env p k s w d a h (live.vars a (or_right (guards_use gs a) (a == a) (eqb_self a)))
+          (live.plain a (or_right (guards_use gs a) ((y == a) || (a == a)) (or_right (y == a) (a == a) (eqb_self a)))))
           ∙ sym (more h true f)
       asks_at h false f = h.asks ∙ sym (append-nil (asked_in s w.asks)) ∙ sym (more h false f)
 
@@ -177,8 +181,8 @@ module _ (c : Circuit) (p : Pipe) (ls : Locks) (vs : ℕ → View) (s : State) (
   follows_spec_call args j gs r w d live on row here fine may q =
       quiet c p ls vs s st k thread around gs r w d glive on q (SpecCall args) (walk_after (SpecCall args) r ls w) refl refl (λ b. same b) (λ h z b f. so h b f)
     where
-      glive : (z : ℕ) → guards_use gs z ≡ true → lives_from p k z ≡ true
-      glive z u = live.vars z (or_left (guards_use gs z) (are_using args z) u)
+      glive : (z : ℕ) → guards_use gs z ≡ true → (lives_from p k z ≡ true) × (is_advised_in p z ≡ false)
+      glive = guards_live p k (record { stage = j; guards = gs; op = SpecCall args }) live
 
       same : (b : Bool) → (locks_ready p st thread (done st thread b (SpecCall args) d) ≡ locks_ready p st thread d)
           × ((done st thread b (SpecCall args) d).reserves ≡ d.reserves)
@@ -187,8 +191,7 @@ module _ (c : Circuit) (p : Pipe) (ls : Locks) (vs : ℕ → View) (s : State) (
 
       values : IsSo p k s w d → all_hold gs d.env ≡ true → values_of args (all_values d) ≡ values_at s r.args
       values h f =
-          ap (λ ks. values_of args (with_kept ks d.env)) h.advice
-          ∙ values_same c p ls vs s st k thread around args r.args w d.env
+          values_same c p ls vs s st k thread around args r.args w (all_values d)
           (row.1 s around.suits (is_taken c p ls vs s st k thread around gs r w d glive on q h f))
           (λ e i y u. h.env y (live.vars y (or_right (guards_use gs y) (are_using args y) (i y u))))
 
@@ -339,8 +342,8 @@ module _ (c : Circuit) (p : Pipe) (ls : Locks) (vs : ℕ → View) (s : State) (
       quiet c p ls vs s st k thread around gs r w d glive on q (Verify true args) (walk_after (Verify true args) r ls w) refl refl
       (same_locks gs r w d vals) (λ h z b f. so h z b f)
     where
-      glive : (z : ℕ) → guards_use gs z ≡ true → lives_from p k z ≡ true
-      glive z u = live.vars z (or_left (guards_use gs z) (are_using args z) u)
+      glive : (z : ℕ) → guards_use gs z ≡ true → (lives_from p k z ≡ true) × (is_advised_in p z ≡ false)
+      glive = guards_live p k (record { stage = j; guards = gs; op = Verify true args }) live
 
       vals : List ℕ
       vals = values_of args d.env
@@ -354,7 +357,7 @@ module _ (c : Circuit) (p : Pipe) (ls : Locks) (vs : ℕ → View) (s : State) (
           let t = is_taken c p ls vs s st k thread around gs r w d glive on q h f in
           let v : vals ≡ values_at s r.args =
           values_same c p ls vs s st k thread around args r.args w d.env (row.1 s around.suits t)
-          (λ e i y u. h.env y (live.vars y (or_right (guards_use gs y) (are_using args y) (i y u)))) in
+          (λ e i y u. let l = or_right (guards_use gs y) (are_using args y) (i y u) in plain_env p k s w d y h (live.vars y l) (live.plain y l)) in
           let ok = (fine f z).1 in
           let g : d.guess ≡ values_at s w.guess =
           h.guess (λ e. absurd (false≢true (sym ok.calm ∙ e))) (live.verify refl) (ok.long ∙ sym row.2 ∙ h.guess_long) in
@@ -373,8 +376,8 @@ module _ (c : Circuit) (p : Pipe) (ls : Locks) (vs : ℕ → View) (s : State) (
       quiet c p ls vs s st k thread around gs r w d glive on q (Verify false args) (walk_after (Verify false args) r ls w) refl refl
       (same_locks gs r w d vals) (λ h z b f. so h z b f)
     where
-      glive : (z : ℕ) → guards_use gs z ≡ true → lives_from p k z ≡ true
-      glive z u = live.vars z (or_left (guards_use gs z) (are_using args z) u)
+      glive : (z : ℕ) → guards_use gs z ≡ true → (lives_from p k z ≡ true) × (is_advised_in p z ≡ false)
+      glive = guards_live p k (record { stage = j; guards = gs; op = Verify false args }) live
 
       vals : List ℕ
       vals = values_of args (all_values d)
@@ -388,8 +391,7 @@ module _ (c : Circuit) (p : Pipe) (ls : Locks) (vs : ℕ → View) (s : State) (
       so h z true f =
           let t = is_taken c p ls vs s st k thread around gs r w d glive on q h f in
           let v : vals ≡ values_at s r.args =
-          ap (λ ks. values_of args (with_kept ks d.env)) h.advice
-          ∙ values_same c p ls vs s st k thread around args r.args w d.env (row.1 s around.suits t)
+          values_same c p ls vs s st k thread around args r.args w (all_values d) (row.1 s around.suits t)
           (λ e i y u. h.env y (live.vars y (or_right (guards_use gs y) (are_using args y) (i y u)))) in
           let ok = (fine f z).1 in
           let early = ok.early in
@@ -413,8 +415,8 @@ module _ (c : Circuit) (p : Pipe) (ls : Locks) (vs : ℕ → View) (s : State) (
   follows_check j gs r w d live on row here fine may q =
       quiet c p ls vs s st k thread around gs r w d glive on q SpecCheck w refl refl (λ b. same b) (λ h z b f. so h b)
     where
-      glive : (z : ℕ) → guards_use gs z ≡ true → lives_from p k z ≡ true
-      glive z u = live.vars z (or_left (guards_use gs z) false u)
+      glive : (z : ℕ) → guards_use gs z ≡ true → (lives_from p k z ≡ true) × (is_advised_in p z ≡ false)
+      glive = guards_live p k (record { stage = j; guards = gs; op = SpecCheck }) live
 
       same : (b : Bool) → (locks_ready p st thread (done st thread b SpecCheck d) ≡ locks_ready p st thread d)
           × ((done st thread b SpecCheck d).reserves ≡ d.reserves)
@@ -430,8 +432,8 @@ module _ (c : Circuit) (p : Pipe) (ls : Locks) (vs : ℕ → View) (s : State) (
   follows_barrier j gs r w d live on row here fine may q =
       quiet c p ls vs s st k thread around gs r w d glive on q SpecBarrier (walk_after SpecBarrier r ls w) refl refl (λ b. same b) (λ h z b f. so h b f)
     where
-      glive : (z : ℕ) → guards_use gs z ≡ true → lives_from p k z ≡ true
-      glive z u = live.vars z (or_left (guards_use gs z) false u)
+      glive : (z : ℕ) → guards_use gs z ≡ true → (lives_from p k z ≡ true) × (is_advised_in p z ≡ false)
+      glive = guards_live p k (record { stage = j; guards = gs; op = SpecBarrier }) live
 
       same : (b : Bool) → (locks_ready p st thread (done st thread b SpecBarrier d) ≡ locks_ready p st thread d)
           × ((done st thread b SpecBarrier d).reserves ≡ d.reserves)

@@ -25,11 +25,12 @@ use Rattle.pdl_law_parts.specs.declared.Mark.TheVariants.{Late}
 use Rattle.pdl_law_parts.specs.Lives.{row_uses, asks_mark, lives_from, mark_from, verifies_from}
 use Rattle.pdl_law_parts.specs.Walk.{Locks, Put, Birth, Walk, is_locked, IsFresh, walk_after, AreRows}
 use Rattle.pdl_law_parts.specs.Rows.{HasRow, HaveRows}
+use Rattle.pdl_law_parts.specs.Advice.{advises_var, is_advised_in, row_plainly, IsAdvisedApart, AreAdvised}
 use Rattle.pdl_law_parts.specs.Served.{IsServed}
 use Rattle.pdl_law_parts.proofs.Reservations.{reserves_grow}
 use Rattle.pdl_word.specs.Each.{Each}
 use Rattle.pdl_law_parts.specs.Views.{View}
-use Rattle.pdl_law_parts.specs.Stands.{AddressesFit, AreBits, AreShort, TellsLate, AreLate, StandsFor, Follows, reserved_in, written_in, let_in, child_in, asked_in, IsEnv, IsHolding, IsGuess}
+use Rattle.pdl_law_parts.specs.Stands.{AddressesFit, AreBits, AreShort, TellsLate, AreLate, StandsFor, Follows, reserved_in, written_in, let_in, child_in, asked_in, advised_in, IsEnv, IsHolding, IsGuess}
 use Rattle.pdl_law_parts.proofs.Signals.{one_is, zero_is}
 use Rattle.pdl_law_parts.proofs.StageLooks.{plain_is, lock_there}
 use Rattle.pdl_law_parts.proofs.StageRow.{IsLive, IsAround, MayReserve, done}
@@ -45,14 +46,16 @@ AllLive p k [] = Unit {0}
 AllLive p k (x ∷ xs) = (IsLive p k x × (x.stage ≡ k)) × AllLive p k xs
 
 live_from : (p : Pipe) (k : ℕ) (xs : List Stmt) → Each (λ (x : Stmt). HasRow p x.op) xs
+    → Each (λ (x : Stmt). (y : ℕ) → row_plainly x y ≡ true → is_advised_in p y ≡ false) xs
+    → ((y : ℕ) → list_any (λ (r : Stmt). advises_var r.op y) xs ≡ true → is_advised_in p y ≡ true)
     → (list_any (λ (r : Stmt). nat_le k r.stage && is_verify r.op) xs ≡ true → verifies_from p k ≡ true)
     → ((y : ℕ) → list_any (λ (r : Stmt). nat_le k r.stage && row_uses r y) xs ≡ true → lives_from p k y ≡ true)
     → ((mark : Mark) (m a : ℕ) → list_any (λ (r : Stmt). nat_le k r.stage && asks_mark mark r.op m a) xs ≡ true → mark_from p k mark m a ≡ true)
     → AllLive p k (in_stage k xs)
-live_from p k [] each v f g = tt
-live_from p k (x ∷ xs) each v f g =
+live_from p k [] each plain a v f g = tt
+live_from p k (x ∷ xs) each plain a v f g =
     at (x.stage == k) refl
-    (live_from p k xs each.1 (λ e. v (or_right (nat_le k x.stage && is_verify x.op) _ e))
+    (live_from p k xs each.1 plain.1 (λ y e. a y (or_right (advises_var x.op y) _ e)) (λ e. v (or_right (nat_le k x.stage && is_verify x.op) _ e))
     (λ y e. f y (or_right (nat_le k x.stage && row_uses x y) _ e))
     (λ mark m a e. g mark m a (or_right (nat_le k x.stage && asks_mark mark x.op m a) _ e)))
   where
@@ -67,14 +70,16 @@ live_from p k (x ∷ xs) each v f g =
               marks = λ mark m a u. g mark m a (or_left (nat_le k x.stage && asks_mark mark x.op m a) _ (ap₂ (λ a b. a && b) low u));
               verify = λ u. v (or_left (nat_le k x.stage && is_verify x.op) _ (ap₂ (λ a b. a && b) low u));
               row = each.0;
+              plain = plain.0;
+              advised = λ y u. a y (or_left (advises_var x.op y) _ u);
             },
             same,
           ),
           rest,
         )
 
-live_rows : (p : Pipe) (k : ℕ) → HaveRows p → AllLive p k (in_stage k p.stmts)
-live_rows p k all = live_from p k p.stmts all (λ e. e) (λ y e. or_left _ _ e) (λ mark m a e. e)
+live_rows : (p : Pipe) (k : ℕ) → HaveRows p → IsAdvisedApart p → AllLive p k (in_stage k p.stmts)
+live_rows p k all apart = live_from p k p.stmts all apart.rows (λ y e. e) (λ e. e) (λ y e. or_left _ _ e) (λ mark m a e. e)
 
 -- ALL ROWS
 
@@ -105,7 +110,7 @@ module _ (c : Circuit) (p : Pipe) (ls : Locks) (vs : ℕ → View) (s : State) (
     (room : (m : ℕ) → is_locked p m ≡ true → RoomLaw (ls.stands m) (ls.size m) (ls.room m))
     (room2 : (m : ℕ) → is_locked p m ≡ true → Room2Law (ls.stands m) (ls.size m) (ls.room2 m))
     (twice : (m : ℕ) → m < length p.mems → ls.twice m ≡ reserves_twice m p.stmts)
-    (stands : StandsFor p ls vs s st) (used : IsServed p st bits) (all : HaveRows p) where
+    (stands : StandsFor p ls vs s st) (used : IsServed p st bits) (all : HaveRows p) (apart : IsAdvisedApart p) where
   around_of : (k : ℕ) (t : Thread) → here p st bits k ≡ Some t → IsAround c p ls vs s st k t.number
   around_of k t h = record {
     suits = suits;
@@ -151,19 +156,19 @@ module _ (c : Circuit) (p : Pipe) (ls : Locks) (vs : ℕ → View) (s : State) (
   pub stage_follows : (k : ℕ) (t : Thread) → AreRows c p ls (vs k).tickets (in_stage k p.stmts) (vs k).begun (vs k).ended
       → IsFresh (vs k).begun
       → length (vs k).begun.guess ≡ length p.start
-      → IsEnv p k s (vs k).begun.vars (with_kept t.kept t.env) → here p st bits k ≡ Some t → Follows p k s st t.number (vs k).ended (deeds p st k t)
+      → IsEnv p k s (vs k).begun.vars (with_kept t.advice (with_kept t.kept t.env)) → here p st bits k ≡ Some t → Follows p k s st t.number (vs k).ended (deeds p st k t)
   stage_follows k t rows fresh guess_long env h =
       let u = stood p st bits k t h in
       follows_all c p ls vs s st k t.number (around_of k t h) (in_stage k p.stmts)
-      (vs k).begun (vs k).ended (before_stage p k t) (live_rows p k all) rows (used.in_use.fine k t h)
+      (vs k).begun (vs k).ended (before_stage p k t) (live_rows p k all apart) rows (used.in_use.fine k t h)
       (record { few = λ m e. used.most k t m h (lock_there p m e); fresh = λ m e. used.fresh k t m h (lock_there p m e) })
       (record {
         ready = ap (λ (f : Signal). f.value s) fresh.ready ∙ one_is s;
         so = λ z. record {
           long = kept_long t.kept t.env ∙ ap length (sym u.env) ∙ stands.long k u.thread u.slot;
           env = env;
-          advice = sym u.advice ∙ stands.advice k u.thread u.slot;
-          advises = refl;
+          advice = subst (AreAdvised p) u.advice (stands.advice k u.thread u.slot);
+          advises = sym (ap (advised_in s) fresh.advises);
           held = subst (λ e. IsHolding p k s (vs k).begun.marks (held_before k e p.stmts [])) u.env (stands.held k u.thread u.slot);
           reserves = sym (ap (reserved_in s) fresh.reserves);
           fits = subst (AddressesFit s) (sym fresh.reserves) tt;

@@ -18,12 +18,14 @@ use Rattle.pdl_law_parts.specs.declared.Mark.{Mark}
 use Rattle.pdl_law_parts.specs.declared.Mark.TheVariants.{Held, Late}
 use Rattle.pdl_law_parts.specs.Lives.{uses_var, guards_use, lives_from, mark_from}
 use Rattle.pdl_law_parts.specs.Walk.{Locks, Walk, is_on, one, zero_bit, both, with_mark, reserved_signal, room_after, walk_after}
+use Rattle.pdl_law_parts.specs.Advice.{is_advised_in}
 use Rattle.pdl_law_parts.specs.Views.{View}
 use Rattle.pdl_law_parts.specs.Stands.{IsSo, MarksLate, IsHolding, reserved_in, written_in, let_in}
 use Rattle.pdl_law_parts.specs.Served.{at_most}
 use Rattle.pdl_law_parts.proofs.Signals.{mux_at, both_at, on_is, one_is, zero_is, reserved_more, written_more, let_more, bits_more, fits_more}
 use Rattle.pdl_law_parts.proofs.StageLooks.{lock_there, finds, room_next, block_is}
-use Rattle.pdl_law_parts.proofs.StageRow.{other_held, IsAround, done, quiet, asking, hold, is_taken, on_at, early, FollowsOp}
+use Rattle.pdl_law_parts.proofs.AdvisedValues.{plain_env}
+use Rattle.pdl_law_parts.proofs.StageRow.{other_held, guards_live, IsAround, done, quiet, asking, hold, is_taken, on_at, early, FollowsOp}
 use Rattle.pdl_word.proofs.Bools.{and_true, and_swap}
 use Rattle.pdl_word.proofs.Numbers.{eqb_self}
 use Rattle.pdl_semantics.proofs.Facts.{all_push}
@@ -37,8 +39,8 @@ module _ (c : Circuit) (p : Pipe) (ls : Locks) (vs : ℕ → View) (s : State) (
   follows_write m a e j gs r w d live on row here fine may q =
       quiet c p ls vs s st k thread around gs r w d glive on q (Write m a e) (walk_after (Write m a e) r ls w) refl refl (λ b. same b) (λ h z b f. so h b f)
     where
-      glive : (z : ℕ) → guards_use gs z ≡ true → lives_from p k z ≡ true
-      glive z u = live.vars z (or_left (guards_use gs z) (uses_var e z) u)
+      glive : (z : ℕ) → guards_use gs z ≡ true → (lives_from p k z ≡ true) × (is_advised_in p z ≡ false)
+      glive = guards_live p k (record { stage = j; guards = gs; op = Write m a e }) live
 
       same : (b : Bool) → (locks_ready p st thread (done st thread b (Write m a e) d) ≡ locks_ready p st thread d)
           × ((done st thread b (Write m a e) d).reserves ≡ d.reserves)
@@ -51,7 +53,7 @@ module _ (c : Circuit) (p : Pipe) (ls : Locks) (vs : ℕ → View) (s : State) (
           ap₂ (λ l v. l ++ record { mem = m; var = a; value = v } ∷ []) h.writes
           (sym
           (row s around.suits (is_taken c p ls vs s st k thread around gs r w d glive on q h f) d.env
-          (λ z u. h.env z (live.vars z (or_right (guards_use gs z) (uses_var e z) u)))))
+          (λ z u. let l = or_right (guards_use gs z) (uses_var e z) u in plain_env p k s w d z h (live.vars z l) (live.plain z l))))
           ∙ ap (λ c. written_in s w.puts ++ (if c then record { mem = m; var = a; value = r.value.value s } ∷ [] else []))
           (sym (on_is s r.on true (on_at c p ls vs s st k thread around gs r w d glive on q h ∙ ap bit f)))
           ∙ sym (written_more s w.puts (record { mem = m; var = a; on = r.on; value = r.value }))
@@ -113,8 +115,8 @@ module _ (c : Circuit) (p : Pipe) (ls : Locks) (vs : ℕ → View) (s : State) (
   follows_reserve_read m a j gs r w d live on row here fine may q =
       quiet c p ls vs s st k thread around gs r w d glive on q (ReserveRead m a) w refl refl (λ b. same b) (λ h z b f. so h b)
     where
-      glive : (z : ℕ) → guards_use gs z ≡ true → lives_from p k z ≡ true
-      glive z u = live.vars z (or_left (guards_use gs z) false u)
+      glive : (z : ℕ) → guards_use gs z ≡ true → (lives_from p k z ≡ true) × (is_advised_in p z ≡ false)
+      glive = guards_live p k (record { stage = j; guards = gs; op = ReserveRead m a }) live
 
       same : (b : Bool) → (locks_ready p st thread (done st thread b (ReserveRead m a) d) ≡ locks_ready p st thread d)
           × ((done st thread b (ReserveRead m a) d).reserves ≡ d.reserves)
@@ -131,8 +133,8 @@ module _ (c : Circuit) (p : Pipe) (ls : Locks) (vs : ℕ → View) (s : State) (
       asking c p ls vs s st k thread around gs r w d glive on q (ReserveWrite m a)
       new (room_after ls m w.reserves) roomy refl (λ b f. split b f) (λ h z f. told h f) (λ h b f. so h b f) (λ h l b f. lates h l b f)
     where
-      glive : (z : ℕ) → guards_use gs z ≡ true → lives_from p k z ≡ true
-      glive z u = live.vars z (or_left (guards_use gs z) (a == z) u)
+      glive : (z : ℕ) → guards_use gs z ≡ true → (lives_from p k z ≡ true) × (is_advised_in p z ≡ false)
+      glive = guards_live p k (record { stage = j; guards = gs; op = ReserveWrite m a }) live
 
       -- how many writes of the memory are pending, and how many the stage reserves with this one
       pending : ℕ
@@ -230,7 +232,7 @@ module _ (c : Circuit) (p : Pipe) (ls : Locks) (vs : ℕ → View) (s : State) (
             (λ n b e. ap (λ x. x || is_held d.held n b) e) h.held);
         reserves =
             ap₂ (λ l v. l ++ record { mem = m; var = a; address = v } ∷ []) h.reserves
-            (h.env a (live.vars a (or_right (guards_use gs a) (a == a) (eqb_self a))))
+            (let l = or_right (guards_use gs a) (a == a) (eqb_self a) in plain_env p k s w d a h (live.vars a l) (live.plain a l))
             ∙ sym (more h true f);
         fits = fits_more s w.reserves _ h.fits (fits_new h true f);
         writes = h.writes;
@@ -273,8 +275,8 @@ module _ (c : Circuit) (p : Pipe) (ls : Locks) (vs : ℕ → View) (s : State) (
       asking c p ls vs s st k thread around gs r w d glive on q (Block m a)
       (walk_after (Block m a) r ls w) r.value found refl (λ b f. split b) told (λ h b f. so h b) (λ h l b f. lates l b)
     where
-      glive : (z : ℕ) → guards_use gs z ≡ true → lives_from p k z ≡ true
-      glive z u = live.vars z (or_left (guards_use gs z) (a == z) u)
+      glive : (z : ℕ) → guards_use gs z ≡ true → (lives_from p k z ≡ true) × (is_advised_in p z ≡ false)
+      glive = guards_live p k (record { stage = j; guards = gs; op = Block m a }) live
 
       more : Blocked
       more = record { mem = m; address = slice_index d.env a; writes = is_held d.held m a }
@@ -298,7 +300,8 @@ module _ (c : Circuit) (p : Pipe) (ls : Locks) (vs : ℕ → View) (s : State) (
           let low = early c p ls vs s st k thread around j (commit_stage p m) here (fine f z).0 in
           let kept : is_on (w.marks Held m a) s ≡ is_held d.held m a =
           on_is s (w.marks Held m a) (is_held d.held m a) (h.held m a (live.marks Held m a (ap₂ (λ x y. x && y) (eqb_self m) (eqb_self a)))) in
-          let addr : slice_index d.env a ≡ (w.vars a).value s = h.env a (live.vars a (or_right (guards_use gs a) (a == a) (eqb_self a))) in
+          let l = or_right (guards_use gs a) (a == a) (eqb_self a) in
+          let addr : slice_index d.env a ≡ (w.vars a).value s = plain_env p k s w d a h (live.vars a l) (live.plain a l) in
           block_is p ls vs s st m (around.kind m e) (around.locks m e) (around.ordered m) thread ((vs k).tickets m)
           (around.tickets m e low) (is_on (w.marks Held m a) s)
           ((w.vars a).value s) r.value (row.1 s around.suits (is_taken c p ls vs s st k thread around gs r w d glive on q h f))
@@ -354,8 +357,8 @@ module _ (c : Circuit) (p : Pipe) (ls : Locks) (vs : ℕ → View) (s : State) (
       new : Walk
       new = walk_after (Release m a) r ls w
 
-      glive : (z : ℕ) → guards_use gs z ≡ true → lives_from p k z ≡ true
-      glive z u = live.vars z (or_left (guards_use gs z) false u)
+      glive : (z : ℕ) → guards_use gs z ≡ true → (lives_from p k z ≡ true) × (is_advised_in p z ≡ false)
+      glive = guards_live p k (record { stage = j; guards = gs; op = Release m a }) live
 
       same : (b : Bool) → (locks_ready p st thread (done st thread b (Release m a) d) ≡ locks_ready p st thread d)
           × ((done st thread b (Release m a) d).reserves ≡ d.reserves)

@@ -2,13 +2,13 @@
 use Rattle.std.proofs.Common.{◌≡◌, ℕ, ◌+◌, ◌<◌, ◌≤◌, Bool, true, false, IsTrue, ◌&&◌, ◌||◌, List, [], ◌∷◌, ◌++◌, map, length, refl, sym, ap, ap₂, ◌∙◌, subst}
 use Rattle.std.specs.Prelude.{nat_le, slice_index, slice_set, slice_index_or, ◌==◌, if◌then◌else◌}
 use Rattle.std.proofs.lemmas.Bool.{or_left, or_right, and_parts, eqb-true, eqb-false, leb-true}
-use Rattle.std.proofs.lemmas.List.{get_or-set_same, get_or-set_other}
+use Rattle.std.proofs.lemmas.List.{get_or-set_same, get_or-set_other, length-set}
 use Rattle.pdl_word.specs.Words.{bit}
 use Rattle.pdl_semantics.specs.Flat.{Expr, Op, Guard, Stmt, Pipe, is_delayed, all_hold, takes_branch, values_of}
 use Rattle.pdl_semantics.specs.Stages.{mem_at, commit_stage, is_verify}
 use Rattle.pdl_semantics.specs.Locks.{read_ready}
 use Rattle.pdl_semantics.specs.Machine as machine
-use Rattle.pdl_semantics.specs.Machine.{HeldLocation, Deeds, Reserved, reserves_of, deeds_after, is_held, let_go, older_write, word_for}
+use Rattle.pdl_semantics.specs.Machine.{HeldLocation, Deeds, Reserved, reserves_of, deeds_after, is_held, let_go, older_write, word_for, with_kept}
 use Rattle.pdl_semantics.specs.Cycle.{new_entries}
 use Rattle.pdl_semantics.specs.Sound.{entries_by}
 use Rattle.pdl_semantics.specs.SecondWrites.{reserves_twice}
@@ -22,14 +22,16 @@ use Rattle.pdl_machine_facts.specs.Slots.{locks_ready}
 use Rattle.pdl_machine_facts.specs.Use.{is_early, IsOpFine}
 use Rattle.pdl_law_parts.specs.declared.Mark.{Mark}
 use Rattle.pdl_law_parts.specs.declared.Mark.TheVariants.{Held, Late}
-use Rattle.pdl_law_parts.specs.Lives.{uses_var, are_using, guards_use, row_uses, asks_mark, lives_from, mark_from, verifies_from}
+use Rattle.pdl_law_parts.specs.Lives.{uses_var, are_using, guards_use, op_uses, row_uses, asks_mark, lives_from, mark_from, verifies_from}
 use Rattle.pdl_law_parts.specs.Walk.{Locks, Row, Walk, is_locked, taken_in, AgreeOn, HaveValues, IsWord, IsOp, both, if_on, with_var, with_mark, walk_after}
 use Rattle.pdl_law_parts.specs.Rows.{HasRow}
+use Rattle.pdl_law_parts.specs.Advice.{advises_var, is_advised_in, op_plainly, row_plainly}
 use Rattle.pdl_law_parts.specs.Views.{View}
 use Rattle.pdl_law_parts.specs.Stands.{IsEnv, IsHolding, AreLate, TellsLate, StandsLock, IsSo, MarksLate, Follows}
 use Rattle.pdl_law_parts.specs.Served.{at_most}
 use Rattle.pdl_law_parts.proofs.Signals.{both_at, if_on_at}
 use Rattle.pdl_law_parts.proofs.StageLooks.{read_is, word_is}
+use Rattle.pdl_law_parts.proofs.AdvisedValues.{plain_value, over_same, plain_env}
 use Rattle.pdl_word.proofs.Numbers.{eqb_self}
 use Rattle.pdl_semantics.specs.PendingLists.{count_older}
 
@@ -53,6 +55,17 @@ pub record IsLive (p : Pipe) (k : ℕ) (x : Stmt) : Type 0 where
   pub marks : (mark : Mark) (m a : ℕ) → asks_mark mark x.op m a ≡ true → mark_from p k mark m a ≡ true
   pub verify : is_verify x.op ≡ true → verifies_from p k ≡ true
   pub row : HasRow p x.op
+  -- what the row binds or uses plainly isn't advised, and what it binds to advice is
+  pub plain : (y : ℕ) → row_plainly x y ≡ true → is_advised_in p y ≡ false
+  pub advised : (y : ℕ) → advises_var x.op y ≡ true → is_advised_in p y ≡ true
+
+-- what the guards of a row use lives in its stage, and isn't advised
+pub guards_live : (p : Pipe) (k : ℕ) (x : Stmt) → IsLive p k x → (y : ℕ) → guards_use x.guards y ≡ true
+    → (lives_from p k y ≡ true) × (is_advised_in p y ≡ false)
+guards_live p k x live y u = (
+  live.vars y (or_left (guards_use x.guards y) (op_uses x.op y) u),
+  live.plain y (or_left (guards_use x.guards y) (op_plainly x.op y) u),
+)
 
 -- the thread of a stage, in a state of the netlist that stands for the machine's
 pub record IsAround (c : Circuit) (p : Pipe) (ls : Locks) (vs : ℕ → View) (s : State) (st : machine.State) (k thread : ℕ) : Type 0 where
@@ -89,11 +102,11 @@ done st thread b op d = if b then deeds_after (word_for st thread) op d else d
 module _ (c : Circuit) (p : Pipe) (ls : Locks) (vs : ℕ → View) (s : State) (st : machine.State) (k thread : ℕ) (around : IsAround c p ls vs s st k thread) where
   -- a row under these guards, after deeds that have come so far
   module _ (gs : List Guard) (r : Row) (w : Walk) (d : Deeds)
-      (glive : (y : ℕ) → guards_use gs y ≡ true → lives_from p k y ≡ true)
+      (glive : (y : ℕ) → guards_use gs y ≡ true → (lives_from p k y ≡ true) × (is_advised_in p y ≡ false))
       (on : (s : State) → Suits c s → r.on.value s ≡ bit (taken_in gs w s)) (q : Follows p k s st thread w d) where
     -- the guards hold for the thread's values just where they are taken by the signals
     pub guards_same : IsSo p k s w d → all_hold gs d.env ≡ taken_in gs w s
-    guards_same h = taken_same gs w s d.env (λ y u. h.env y (glive y u))
+    guards_same h = taken_same gs w s d.env (λ y u. let g = glive y u in plain_env p k s w d y h g.0 g.1)
 
     -- where the guards hold for the thread's values, they are taken by the signals
     pub is_taken : IsSo p k s w d → all_hold gs d.env ≡ true → taken_in gs w s ≡ true
@@ -154,18 +167,35 @@ module _ (c : Circuit) (p : Pipe) (ls : Locks) (vs : ℕ → View) (s : State) (
     -- VARIABLES
 
     -- where a variable gets a signal of its new value, the signals have the values with that one
-    pub set_env : (y v : ℕ) (f : Signal) → y < length d.env → f.value s ≡ v → IsEnv p k s w.vars d.env → IsEnv p k s (with_var y f w).vars (slice_set d.env y v)
-    set_env y v f l e h z live = at (z == y) refl
+    pub set_env : (env : List ℕ) (y v : ℕ) (f : Signal) → y < length env → f.value s ≡ v → IsEnv p k s w.vars env
+        → IsEnv p k s (with_var y f w).vars (slice_set env y v)
+    set_env env y v f l e h z live = at (z == y) refl
       where
-        at : (b : Bool) → (z == y) ≡ b → slice_index (slice_set d.env y v) z ≡ (if b then f else w.vars z).value s
-        at true g = ap (slice_index (slice_set d.env y v)) (eqb-true z y g) ∙ get_or-set_same d.env y v 0 l ∙ sym e
-        at false g = get_or-set_other d.env y z v 0 (eqb-false z y g) ∙ h z live
+        at : (b : Bool) → (z == y) ≡ b → slice_index (slice_set env y v) z ≡ (if b then f else w.vars z).value s
+        at true g = ap (slice_index (slice_set env y v)) (eqb-true z y g) ∙ get_or-set_same env y v 0 l ∙ sym e
+        at false g = get_or-set_other env y z v 0 (eqb-false z y g) ∙ h z live
+
+    -- the same where the variable isn't advised: it is set below what is advised
+    pub set_plain : (y v : ℕ) (f : Signal) → is_advised_in p y ≡ false → y < length d.env → f.value s ≡ v → IsSo p k s w d
+        → IsEnv p k s (with_var y f w).vars (with_kept d.advice (slice_set d.env y v))
+    set_plain y v f plain l e h z live = at (z == y) refl
+      where
+        new : List ℕ
+        new = with_kept d.advice (slice_set d.env y v)
+
+        at : (b : Bool) → (z == y) ≡ b → slice_index new z ≡ (if b then f else w.vars z).value s
+        at true g =
+            ap (slice_index new) (eqb-true z y g) ∙ plain_value p d.advice (slice_set d.env y v) y h.advice plain
+            ∙ get_or-set_same d.env y v 0 l ∙ sym e
+        at false g =
+            over_same d.advice (slice_set d.env y v) d.env z (length-set d.env y v) (get_or-set_other d.env y z v 0 (eqb-false z y g))
+            ∙ h.env z live
 
     -- where a variable gets a signal of the value that it had, the signals still have the same values
-    pub keep_env : (y : ℕ) (f : Signal) → f.value s ≡ (w.vars y).value s → IsEnv p k s w.vars d.env → IsEnv p k s (with_var y f w).vars d.env
-    keep_env y f e h z live = at (z == y) refl
+    pub keep_env : (env : List ℕ) (y : ℕ) (f : Signal) → f.value s ≡ (w.vars y).value s → IsEnv p k s w.vars env → IsEnv p k s (with_var y f w).vars env
+    keep_env env y f e h z live = at (z == y) refl
       where
-        at : (b : Bool) → (z == y) ≡ b → slice_index d.env z ≡ (if b then f else w.vars z).value s
+        at : (b : Bool) → (z == y) ≡ b → slice_index env z ≡ (if b then f else w.vars z).value s
         at true g = h z live ∙ ap (λ i. (w.vars i).value s) (eqb-true z y g) ∙ sym e
         at false g = h z live
 

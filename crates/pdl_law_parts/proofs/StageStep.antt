@@ -1,22 +1,25 @@
 -- One row of a stage: what the thread does so far is what the walk tells so far, as long as the locks let the thread move.
 use Rattle.std.proofs.Common.{◌≡◌, ℕ, ◌<◌, Bool, true, false, IsTrue, refl, sym, ap, ◌∙◌, subst}
-use Rattle.std.specs.Prelude.{slice_index, ◌==◌}
+use Rattle.std.specs.Prelude.{slice_index, ◌==◌, ◌||◌}
 use Rattle.std.proofs.lemmas.List.{length-set}
 use Rattle.std.proofs.lemmas.Bool.{or_right, or_left}
 use Rattle.pdl_semantics.specs.Flat.{Expr, Op, Bind, CombRead, Write, ReserveRead, ReserveWrite, Block, Release, Call, Stmt, Pipe, all_hold, value_of, DelayedRead, SpecCall, Verify, SpecCheck, SpecBarrier, AdviceBind, AdviceRead, AdviceWrite}
 use Rattle.pdl_semantics.specs.Stages.{mem_at, commit_stage}
 use Rattle.pdl_semantics.specs.Locks.{read_ready}
 use Rattle.pdl_semantics.specs.Machine as machine
-use Rattle.pdl_semantics.specs.Machine.{Deeds, older_write, word_for}
+use Rattle.pdl_semantics.specs.Machine.{Deeds, all_values, older_write, word_for}
 use Rattle.pdl_net.specs.Circuit.{Circuit, State}
 use Rattle.pdl_machine_facts.specs.Slots.{locks_ready}
 use Rattle.pdl_machine_facts.specs.Use.{is_early, IsOpFine}
 use Rattle.pdl_law_parts.specs.Lives.{uses_var, guards_use, lives_from}
 use Rattle.pdl_law_parts.specs.Walk.{Locks, Row, Walk, IsRow, with_var, walk_after}
+use Rattle.pdl_law_parts.specs.Advice.{is_advised_in}
 use Rattle.pdl_law_parts.specs.Views.{View}
 use Rattle.pdl_law_parts.specs.Stands.{IsSo, Follows}
-use Rattle.pdl_law_parts.proofs.StageRow.{IsLive, IsAround, done, quiet, set_env, keep_env, word_at, is_taken, is_not, early, FollowsOp, MayReserve}
+use Rattle.pdl_law_parts.proofs.StageRow.{IsLive, guards_live, IsAround, done, quiet, set_plain, keep_env, word_at, is_taken, is_not, early, FollowsOp, MayReserve}
 use Rattle.pdl_law_parts.proofs.StageLocks.{follows_write, follows_reserve_read, follows_reserve_write, follows_block, follows_release}
+use Rattle.pdl_law_parts.proofs.AdvisedValues.{plain_env}
+use Rattle.pdl_law_parts.proofs.StageAdvice.{follows_advice, follows_advised_read, follows_advised_write}
 use Rattle.pdl_law_parts.proofs.StageCalls.{follows_call, follows_fetch, follows_spec_call, follows_verify, follows_update, follows_check, follows_barrier}
 use Rattle.pdl_word.proofs.Numbers.{eqb_self}
 
@@ -26,8 +29,8 @@ module _ (c : Circuit) (p : Pipe) (ls : Locks) (vs : ℕ → View) (s : State) (
   follows_bind y e j gs r w d live on row here fine may q =
       quiet c p ls vs s st k thread around gs r w d glive on q (Bind y e) (with_var y r.value w) refl refl (λ b. same b) (λ h z b f. so h b f)
     where
-      glive : (z : ℕ) → guards_use gs z ≡ true → lives_from p k z ≡ true
-      glive z u = live.vars z (or_left (guards_use gs z) (uses_var e z) u)
+      glive : (z : ℕ) → guards_use gs z ≡ true → (lives_from p k z ≡ true) × (is_advised_in p z ≡ false)
+      glive = guards_live p k (record { stage = j; guards = gs; op = Bind y e }) live
 
       same : (b : Bool) → (locks_ready p st thread (done st thread b (Bind y e) d) ≡ locks_ready p st thread d)
           × ((done st thread b (Bind y e) d).reserves ≡ d.reserves)
@@ -38,9 +41,12 @@ module _ (c : Circuit) (p : Pipe) (ls : Locks) (vs : ℕ → View) (s : State) (
       so h true f = record {
         long = length-set d.env y (value_of e d.env) ∙ h.long;
         env =
-            set_env c p ls vs s st k thread around gs r w d glive on q y (value_of e d.env) r.value (subst (λ n. y < n) (sym h.long) row.0)
+            set_plain c p ls vs s st k thread around gs r w d glive on q y (value_of e d.env) r.value
+            (live.plain y (or_right (guards_use gs y) ((y == y) || uses_var e y) (or_left (y == y) (uses_var e y) (eqb_self y))))
+            (subst (λ n. y < n) (sym h.long) row.0)
             (row.1 s around.suits (is_taken c p ls vs s st k thread around gs r w d glive on q h f) d.env
-            (λ z u. h.env z (live.vars z (or_right (guards_use gs z) (uses_var e z) u)))) h.env;
+            (λ z u. plain_env p k s w d z h (live.vars z (or_right (guards_use gs z) (uses_var e z) u))
+            (live.plain z (or_right (guards_use gs z) ((y == z) || uses_var e z) (or_right (y == z) (uses_var e z) u))))) h;
         held = h.held;
         reserves = h.reserves;
         fits = h.fits;
@@ -60,7 +66,7 @@ module _ (c : Circuit) (p : Pipe) (ls : Locks) (vs : ℕ → View) (s : State) (
       so h false f = record {
         long = h.long;
         env =
-            keep_env c p ls vs s st k thread around gs r w d glive on q y r.value
+            keep_env c p ls vs s st k thread around gs r w d glive on q (all_values d) y r.value
             (row.2 s around.suits (is_not c p ls vs s st k thread around gs r w d glive on q h f)) h.env;
         held = h.held;
         reserves = h.reserves;
@@ -84,8 +90,8 @@ module _ (c : Circuit) (p : Pipe) (ls : Locks) (vs : ℕ → View) (s : State) (
   follows_read y m a j gs r w d live on row here fine may q =
       quiet c p ls vs s st k thread around gs r w d glive on q (CombRead y m a) (with_var y r.value w) refl refl (λ b. same b) (λ h z b f. so h z b f)
     where
-      glive : (z : ℕ) → guards_use gs z ≡ true → lives_from p k z ≡ true
-      glive z u = live.vars z (or_left (guards_use gs z) (a == z) u)
+      glive : (z : ℕ) → guards_use gs z ≡ true → (lives_from p k z ≡ true) × (is_advised_in p z ≡ false)
+      glive = guards_live p k (record { stage = j; guards = gs; op = CombRead y m a }) live
 
       same : (b : Bool) → (locks_ready p st thread (done st thread b (CombRead y m a) d) ≡ locks_ready p st thread d)
           × ((done st thread b (CombRead y m a) d).reserves ≡ d.reserves)
@@ -95,19 +101,23 @@ module _ (c : Circuit) (p : Pipe) (ls : Locks) (vs : ℕ → View) (s : State) (
       so : IsSo p k s w d → locks_ready p st thread d ≡ true → (b : Bool) → all_hold gs d.env ≡ b
           → IsSo p k s (with_var y r.value w) (done st thread b (CombRead y m a) d)
       so h z true f =
-          let addr : slice_index d.env a ≡ (w.vars a).value s = h.env a (live.vars a (or_right (guards_use gs a) (a == a) (eqb_self a))) in
+          let addr : slice_index d.env a ≡ (w.vars a).value s =
+          plain_env p k s w d a h (live.vars a (or_right (guards_use gs a) (a == a) (eqb_self a)))
+          (live.plain a (or_right (guards_use gs a) ((y == a) || (a == a)) (or_right (y == a) (a == a) (eqb_self a)))) in
           let word = row.1 s around.suits (is_taken c p ls vs s st k thread around gs r w d glive on q h f) in
           let g = fine f z in
           let P : ℕ → Type 0 = λ v. IsTrue (read_ready (mem_at p m).lock (older_write st thread m v)) in
           record {
             long = length-set d.env y _ ∙ h.long;
             env =
-                set_env c p ls vs s st k thread around gs r w d glive on q y
-                (word_for st thread m (slice_index d.env a)) r.value (subst (λ n. y < n) (sym h.long) row.0)
+                set_plain c p ls vs s st k thread around gs r w d glive on q y
+                (word_for st thread m (slice_index d.env a)) r.value
+                (live.plain y (or_right (guards_use gs y) ((y == y) || (a == y)) (or_left (y == y) (a == y) (eqb_self y))))
+                (subst (λ n. y < n) (sym h.long) row.0)
                 (word_at c p ls vs s st k thread around gs r w d glive on q m a live.row word
                 (early c p ls vs s st k thread around j (commit_stage p m) here g.0)
                 (subst P addr g.1)
-                ∙ ap (word_for st thread m) (sym addr)) h.env;
+                ∙ ap (word_for st thread m) (sym addr)) h;
             held = h.held;
             reserves = h.reserves;
             fits = h.fits;
@@ -127,7 +137,7 @@ module _ (c : Circuit) (p : Pipe) (ls : Locks) (vs : ℕ → View) (s : State) (
       so h z false f = record {
         long = h.long;
         env =
-            keep_env c p ls vs s st k thread around gs r w d glive on q y r.value
+            keep_env c p ls vs s st k thread around gs r w d glive on q (all_values d) y r.value
             (row.2 s around.suits (is_not c p ls vs s st k thread around gs r w d glive on q h f)) h.env;
         held = h.held;
         reserves = h.reserves;
@@ -161,9 +171,9 @@ module _ (c : Circuit) (p : Pipe) (ls : Locks) (vs : ℕ → View) (s : State) (
   follows_op (Verify false args) = follows_update c p ls vs s st k thread around args
   follows_op SpecCheck = follows_check c p ls vs s st k thread around
   follows_op SpecBarrier = follows_barrier c p ls vs s st k thread around
-  follows_op (AdviceBind y e) = λ j gs r w d live on row here fine may q. absurd row
-  follows_op (AdviceRead y m a) = λ j gs r w d live on row here fine may q. absurd row
-  follows_op (AdviceWrite m a e) = λ j gs r w d live on row here fine may q. absurd row
+  follows_op (AdviceBind y e) = follows_advice c p ls vs s st k thread around y e
+  follows_op (AdviceRead y m a) = follows_advised_read c p ls vs s st k thread around y m a
+  follows_op (AdviceWrite m a e) = follows_advised_write c p ls vs s st k thread around m a e
 
   -- the deeds follow after each row
   pub follows_row : (x : Stmt) (r : Row) (w : Walk) (d : Deeds) → IsLive p k x → IsRow c p ls (vs k).tickets x w r

@@ -1,4 +1,4 @@
--- The arrays of a compiled pipe: one for each memory, with its name and sizes, written only where the memory has a lock.
+-- The arrays of a compiled pipe: one for each memory, with its name and sizes.
 use Rattle.std.proofs.Common.{◌≡◌, inl, inr, ℕ, zero, suc, ◌<◌, Bool, true, false, if◌then◌else◌, List, [], ◌∷◌, ◌++◌, length, get_or, map, All, Option, Some, None, refl, sym, ap, ap₂, ◌∙◌, subst, arith}
 use Rattle.std.specs.Option.{is_some}
 use Rattle.std.specs.List.{AllByRecursion}
@@ -8,9 +8,7 @@ use Rattle.pdl_kit.specs.declared.mem_info.MemInfo.{MemInfo}
 use Rattle.pdl_semantics.specs.Tree.{LockDecl, Mem}
 use Rattle.pdl_semantics.specs.Flat.{is_delayed}
 use Rattle.pdl_net.specs.declared.Array.{Array}
-use Rattle.pdl_net.specs.declared.WritePort.{WritePort}
-use Rattle.pdl_net.specs.Circuit.{Circuit, Shape, shape_of}
-use Rattle.pdl_net.specs.Meaning.{write_signal}
+use Rattle.pdl_net.specs.Circuit.{Shape, shape_of}
 use Rattle.pdl_net.specs.Pipe.{PortMem, comb_info}
 use Rattle.pdl_law_parts.specs.DeclaredMems.{port_mem, locked_of, has_lock, array_words, shape_of_mem}
 use Rattle.pdl_law_parts.proofs.WellFormedNames.{Among, name_of_mem}
@@ -68,13 +66,6 @@ mem_array (a ∷ ars) (x ∷ xs) e m (inr h) d =
     let w = mem_array ars xs rest m h d in
     let low : w.0 < length ars = w.1 in
     (suc w.0, (omega arith), record { shape = w.2.shape; among = inr w.2.among; lock = w.2.lock })
-
--- ---- writes
-
--- where no write has a signal there is no write port
-pub no_write : (c : Circuit) (ws : List WritePort) → map (write_signal c) ws ≡ [] → ws ≡ []
-no_write c [] e = refl
-no_write c (w ∷ ws) e = absurd (cc e)
 
 -- what holds of each locked memory
 locked_rec : (P : PortMem → Type 0) (twice : ℕ → Bool) (k : ℕ) (ms : List Mem) → ((t : Bool) (m : Mem) → Among m ms → P (port_mem t m))

@@ -1,12 +1,12 @@
 -- The netlist of a pipe, in signals.
-use Rattle.std.specs.Prelude.{◌≡◌, ℕ, ◌==◌, ◌<◌, ◌≤◌, true, false, [], map, length, slice_index, slice_index_or, if◌then◌else◌}
+use Rattle.std.specs.Prelude.{◌≡◌, ℕ, ◌==◌, ◌<◌, ◌≤◌, true, false, map, length, slice_index, slice_index_or, if◌then◌else◌}
 use Rattle.pdl_semantics.specs.Flat.{Pipe, is_delayed, start_env}
 use Rattle.pdl_semantics.specs.Stages.{in_stage, mem_at, reserve_stage, commit_stage}
 use Rattle.pdl_semantics.specs.SecondWrites.{reserves_twice}
 use Rattle.pdl_net.specs.declared.Dir.TheVariants.{Out}
 use Rattle.pdl_net.specs.declared.Port.{Port}
 use Rattle.pdl_net.specs.declared.Reg.{Reg}
-use Rattle.pdl_net.specs.Circuit.{Circuit, State, Output, HasReg, HasArray}
+use Rattle.pdl_net.specs.Circuit.{Circuit, State, Output, HasReg, HasArray, array_depth}
 use Rattle.pdl_net.specs.Signal.{Signal, no_signal, mux_signal}
 use Rattle.pdl_net.specs.Meaning.{signal, write_signals}
 use Rattle.pdl_net.specs.Cycle.{next_regs}
@@ -19,7 +19,7 @@ use Rattle.pdl_law_parts.specs.declared.Mark.{Mark}
 use Rattle.pdl_law_parts.specs.Lives.{lives_from, mark_from, verifies_from}
 use Rattle.pdl_law_parts.specs.Walk.{Locks, is_locked, one, zero_bit, IsFresh, AreRows}
 use Rattle.pdl_law_parts.specs.Views.{View, Gates, Comer, moves_where, comers, first_coming}
-use Rattle.pdl_law_parts.specs.Ports.{Shown, Commits, step_of}
+use Rattle.pdl_law_parts.specs.Ports.{Shown, Commits, step_of, all_advises}
 
 -- two signals have the same value; one has in the next cycle the value of the other; one begins with a value
 abbrev pub Same : Circuit → Signal → Signal → Type 0
@@ -74,7 +74,7 @@ pub record GoesOn (p : Pipe) (ls : Locks) (c : Circuit) (vs : ℕ → View) (gat
   pub second : Commit2Law (ls.stands m) (ls.size m) (ls.bits m) (step_of p vs gates moves m)
       commits.second.enable commits.second.addr commits.second.value
 
--- the stages and the locks, whatever stands beside them; a memory that answers at once has an array, which is never written where it has no lock
+-- the stages and the locks, whatever stands beside them; a memory that answers at once has an array, which the advisory writes of the stages alone write where it has no lock
 pub record IsLaid (p : Pipe) (ls : Locks) (vs : ℕ → View) (gates : Gates) (moves : ℕ → Signal) (c : Circuit) : Type 0 where
   pub stages : (k : ℕ) → k < length p.stages → IsStage p ls c vs gates moves k
   pub begins : IsStart p c vs
@@ -83,7 +83,9 @@ pub record IsLaid (p : Pipe) (ls : Locks) (vs : ℕ → View) (gates : Gates) (m
   pub twice : (m : ℕ) → m < length p.mems → ls.twice m ≡ reserves_twice m p.stmts
   pub locks : (m : ℕ) → is_locked p m ≡ true → GoesOn p ls c vs gates moves (owns m) (commits m) m
   pub arrays : (m : ℕ) → m < length p.mems → is_delayed (mem_at p m).kind ≡ false → HasArray c (ls.array m)
-  pub unwritten : (m : ℕ) → m < length p.mems → is_locked p m ≡ false → is_delayed (mem_at p m).kind ≡ false → write_signals c (ls.array m) ≡ []
+  pub deep : (m : ℕ) → m < length p.mems → is_locked p m ≡ false → is_delayed (mem_at p m).kind ≡ false → array_depth c (ls.array m) ≡ (mem_at p m).depth
+  pub advised : (m : ℕ) → m < length p.mems → is_locked p m ≡ false → is_delayed (mem_at p m).kind ≡ false
+      → write_signals c (ls.array m) ≡ all_advises m vs moves (length p.stages) 0
 
 -- an output of a circuit with the signal of its net
 abbrev pub shown_in : Circuit → Output → Shown

@@ -2,6 +2,7 @@ pub mod Lives
 pub mod Walk
 pub mod Places
 pub mod Rows
+pub mod Advice
 pub mod Views
 pub mod Ports
 pub mod Compiled

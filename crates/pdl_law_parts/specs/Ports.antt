@@ -1,12 +1,13 @@
--- What the stages do to each lock, and what the netlist shows.
+-- What the stages do to each lock and to the arrays of advisory memories, and what the netlist shows.
 use Rattle.std.specs.Prelude.{ℕ, zero, suc, ◌==◌, Bool, List, [], ◌∷◌, ◌++◌, length, if◌then◌else◌, codes, decimal}
 use Rattle.pdl_semantics.specs.Flat.{Mem, Pipe, has_lock}
 use Rattle.pdl_semantics.specs.SecondWrites.{reserves_twice}
 use Rattle.pdl_net.specs.declared.BinOp.TheVariants.{Add}
 use Rattle.pdl_net.specs.Signal.{Signal, const_signal, bin_signal, mux_signal}
+use Rattle.pdl_net.specs.Meaning.{WriteSignal}
 use Rattle.pdl_lockapi.specs.Laws.{ReserveSignal, TicketSignal, StepSignals}
 use Rattle.pdl_law_parts.specs.declared.Mark.TheVariants.{Late}
-use Rattle.pdl_law_parts.specs.Walk.{Reservation, Put, Letting, one, zero_bit, both}
+use Rattle.pdl_law_parts.specs.Walk.{Reservation, Put, Letting, Advising, one, zero_bit, both}
 use Rattle.pdl_law_parts.specs.Views.{View, Gates}
 
 -- ---- the ports of a memory's lock over n stages, of which the first is k; those of the last stage stand first
@@ -80,6 +81,19 @@ step_of p vs gates moves m = record {
   squash = gates.squash;
   tail = gates.tail m;
 }
+
+-- ---- the ports of the array of a memory without lock, over n stages, of which the first is k; those of the last stage stand first
+
+-- the write ports of a memory's array by the advisory writes of one stage, where its thread moves
+abbrev pub advises_to : ℕ → Signal → List Advising → List WriteSignal
+advises_to m moves [] = []
+advises_to m moves (x ∷ xs) =
+    if x.mem == m then record { enable = both moves x.on; addr = x.addr; value = x.value } ∷ advises_to m moves xs else advises_to m moves xs
+
+-- the write ports of a memory's array over n stages: of two that write one word in a cycle the later one holds
+abbrev pub all_advises : ℕ → (ℕ → View) → (ℕ → Signal) → ℕ → ℕ → List WriteSignal
+all_advises m vs moves zero k = []
+all_advises m vs moves (suc n) k = all_advises m vs moves n (suc k) ++ advises_to m (moves k) (vs k).ended.advises
 
 -- ---- outputs
 

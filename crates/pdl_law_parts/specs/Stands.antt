@@ -4,7 +4,7 @@ use Rattle.pdl_word.specs.Words.{bit}
 use Rattle.pdl_semantics.specs.Flat.{Pipe, is_delayed}
 use Rattle.pdl_semantics.specs.Stages.{mem_at, reserve_stage, commit_stage, verify_stage}
 use Rattle.pdl_semantics.specs.Machine as machine
-use Rattle.pdl_semantics.specs.Machine.{Thread, Pending, Reserved, Written, Deeds, deeds, held_before, is_held, with_kept}
+use Rattle.pdl_semantics.specs.Machine.{Thread, Pending, Reserved, Written, Advised, Deeds, deeds, held_before, is_held, with_kept, all_values}
 use Rattle.pdl_semantics.specs.Cycle.{is_kept, squasher, all_releases, list_three, new_entries}
 use Rattle.pdl_semantics.specs.Sound.{entries_by}
 use Rattle.pdl_net.specs.Circuit.{State}
@@ -15,12 +15,13 @@ use Rattle.pdl_machine_facts.specs.Slots.{slot, here, locks_ready, stage_moves, 
 use Rattle.pdl_law_parts.specs.declared.Mark.{Mark}
 use Rattle.pdl_law_parts.specs.declared.Mark.TheVariants.{Held, Late}
 use Rattle.pdl_law_parts.specs.Lives.{lives_from, mark_from, verifies_from}
-use Rattle.pdl_law_parts.specs.Walk.{Locks, Reservation, Put, Letting, Birth, Ask, Walk, is_locked, is_on, values_at}
+use Rattle.pdl_law_parts.specs.Walk.{Locks, Reservation, Put, Letting, Birth, Ask, Advising, Walk, is_locked, is_on, values_at}
+use Rattle.pdl_law_parts.specs.Advice.{AreAdvised}
 use Rattle.pdl_law_parts.specs.Views.{View, Gates}
 use Rattle.pdl_semantics.specs.PendingLists.{count_older}
 use Rattle.pdl_semantics.specs.SecondWrites.{reserves_twice}
 
--- values are those of the variables' signals, as far as they live from stage k on; and so is what is held
+-- values are those of the variables' signals, as far as they live from stage k on
 abbrev pub IsEnv : Pipe → ℕ → State → (ℕ → Signal) → List ℕ → Type 0
 IsEnv p k s vars env = (x : ℕ) → lives_from p k x ≡ true → slice_index env x ≡ (vars x).value s
 
@@ -54,13 +55,12 @@ pub record StandsLock (p : Pipe) (ls : Locks) (vs : ℕ → View) (s : State) (s
   pub late : ls.twice m ≡ true → (k : ℕ) (t : Thread) → slot st k ≡ Some t → reserve_stage p m < k → k ≤ commit_stage p m
       → AreLate p k s (vs k).begun.marks t.number m (entries_by t.number (machine.lock_of st m))
 
--- a state of the netlist stands for one of the machine: which stages hold a thread, what it has, memories' words, and locks
+-- a state of the netlist stands for one of the machine: which stages hold a thread, what it has, what is advised among its values, memories' words, and locks
 pub record StandsFor (p : Pipe) (ls : Locks) (vs : ℕ → View) (s : State) (st : machine.State) : Type 0 where
   pub valid : (k : ℕ) → k < length p.stages → (vs k).valid.value s ≡ bit (is_some (slot st k))
   pub long : (k : ℕ) (t : Thread) → slot st k ≡ Some t → length t.env ≡ p.vars
-  pub env : (k : ℕ) (t : Thread) → slot st k ≡ Some t → IsEnv p k s (vs k).kept (with_kept t.kept t.env)
-  -- no value is advised
-  pub advice : (k : ℕ) (t : Thread) → slot st k ≡ Some t → t.advice ≡ []
+  pub env : (k : ℕ) (t : Thread) → slot st k ≡ Some t → IsEnv p k s (vs k).kept (with_kept t.advice (with_kept t.kept t.env))
+  pub advice : (k : ℕ) (t : Thread) → slot st k ≡ Some t → AreAdvised p t.advice
   pub held : (k : ℕ) (t : Thread) → slot st k ≡ Some t → IsHolding p k s (vs k).begun.marks (held_before k t.env p.stmts [])
   pub guess : (k : ℕ) (t : Thread) → slot st k ≡ Some t → IsGuess p k s (vs k).begun.guess t.guess
   pub words : (m : ℕ) → is_locked p m ≡ false → is_delayed (mem_at p m).kind ≡ false → (a : ℕ) → a < (mem_at p m).depth
@@ -87,6 +87,11 @@ abbrev pub asked_in : State → List Ask → List machine.Ask
 asked_in s [] = []
 asked_in s (q ∷ qs) = if is_on q.on s then record { mem = q.mem; var = q.var; address = q.addr.value s } ∷ asked_in s qs else asked_in s qs
 
+-- the advisory writes whose condition is 1 in a state, with their addresses and their values
+abbrev pub advised_in : State → List Advising → List Advised
+advised_in s [] = []
+advised_in s (x ∷ xs) = if is_on x.on s then record { mem = x.mem; address = x.addr.value s; value = x.value.value s } ∷ advised_in s xs else advised_in s xs
+
 -- the arguments of the first of these calls whose condition is 1 in a state, where one is
 abbrev pub child_in : State → List Birth → Option (List ℕ)
 child_in s [] = None
@@ -110,9 +115,9 @@ AreShort p (b ∷ bs) = (length b.args ≤ p.vars) × AreShort p bs
 -- a walk that has come as far as these deeds of a thread in stage k
 pub record IsSo (p : Pipe) (k : ℕ) (s : State) (w : Walk) (d : Deeds) : Type 0 where
   pub long : length d.env ≡ p.vars
-  pub env : IsEnv p k s w.vars d.env
-  pub advice : d.advice ≡ []
-  pub advises : d.advises ≡ []
+  pub env : IsEnv p k s w.vars (all_values d)
+  pub advice : AreAdvised p d.advice
+  pub advises : d.advises ≡ advised_in s w.advises
   pub held : IsHolding p k s w.marks d.held
   pub reserves : d.reserves ≡ reserved_in s w.reserves
   pub fits : AddressesFit s w.reserves

@@ -79,6 +79,13 @@ pub record Ask : Type 0 where
   pub on : Signal
   pub addr : Signal
 
+-- a write of an advisory memory: its condition, its address and its value
+pub record Advising : Type 0 where
+  pub mem : ℕ
+  pub on : Signal
+  pub addr : Signal
+  pub value : Signal
+
 -- a stage on the way through its rows: its variables, what is held, what it waits for, and what its thread does
 pub record Walk : Type 0 where
   pub vars : ℕ → Signal
@@ -92,7 +99,8 @@ pub record Walk : Type 0 where
   -- the latest first
   pub births : List Birth
   pub asks : List Ask
-  -- the arguments of the guess, whether a verify fails, and whether there is a barrier
+  pub advises : List Advising
+  -- the arguments of the guess, whether a verify fails or an update changes it, and whether there is a barrier
   pub guess : List Signal
   pub fails : Signal
   pub barrier : Signal
@@ -105,12 +113,13 @@ pub record IsFresh (w : Walk) : Type 0 where
   pub lettings : w.lettings ≡ []
   pub births : w.births ≡ []
   pub asks : w.asks ≡ []
+  pub advises : w.advises ≡ []
   pub fails : w.fails ≡ zero_bit
   pub barrier : w.barrier ≡ zero_bit
 
 -- ---- rows
 
--- the signals that a row brings: whether it stands on the thread's path; after a row that binds the variable's, of a block whether its look is ready, of a write the value, of a verify whether it fails; the arguments of a call, and the guess after a row that guesses
+-- the signals that a row brings: whether it stands on the thread's path; after a row that binds the variable's, of a block whether its look is ready, of a write the value, of a verify whether it fails, of an update whether it changes the guess; the arguments of a call, and the guess after a row that guesses
 pub record Row : Type 0 where
   pub on : Signal
   pub value : Signal
@@ -164,7 +173,7 @@ pub record IsWord (p : Pipe) (ls : Locks) (m : ℕ) (addr ticket f : Signal) (s 
   pub locked : is_locked p m ≡ true
       → ThroughLock ls m ticket s (λ x t. look_ready (ls.kind m) look_kind.R x t (addr.value s) ≡ true → f.value s ≡ look_value x t (addr.value s))
 
--- what a row's signals say, by its guards, where the thread has these tickets; the address of a reservation for writing fits. No row stands for what is advised
+-- what a row's signals say, by its guards, where the thread has these tickets; the address of a reservation for writing fits. What is advised is bound and written as what is not, but by all values
 abbrev pub IsOp : Circuit → Pipe → Locks → (ℕ → Signal) → List Guard → Op → Walk → Row → Type 0
 IsOp c p ls tickets gs (Bind x e) w r = (x < p.vars) × WhereTaken c gs w (HasValue e w r.value) × WhereNot c gs w (λ s. r.value.value s ≡ (w.vars x).value s)
 IsOp c p ls tickets gs (CombRead x m a) w r =
@@ -193,9 +202,11 @@ IsOp c p ls tickets gs (Verify true args) w r =
     × (length w.guess ≡ length args) × WhereTaken c gs w (λ s. r.value.value s ≡ bit (not (same_args (values_at s r.args) (values_at s w.guess))))
 IsOp c p ls tickets gs SpecCheck w r = ⊤
 IsOp c p ls tickets gs SpecBarrier w r = ⊤
-IsOp c p ls tickets gs (AdviceBind _ _) w r = ⊥
-IsOp c p ls tickets gs (AdviceRead _ _ _) w r = ⊥
-IsOp c p ls tickets gs (AdviceWrite _ _ _) w r = ⊥
+IsOp c p ls tickets gs (AdviceBind x e) w r =
+    (x < p.vars) × WhereTaken c gs w (HasValue e w r.value) × WhereNot c gs w (λ s. r.value.value s ≡ (w.vars x).value s)
+IsOp c p ls tickets gs (AdviceRead x m a) w r =
+    (x < p.vars) × WhereTaken c gs w (IsWord p ls m (w.vars a) (tickets m) r.value) × WhereNot c gs w (λ s. r.value.value s ≡ (w.vars x).value s)
+IsOp c p ls tickets gs (AdviceWrite m a e) w r = WhereTaken c gs w (HasValue e w r.value)
 
 -- the signals of a statement's row: its condition tells whether the guards are taken, and the others are as its operation asks
 pub record IsRow (c : Circuit) (p : Pipe) (ls : Locks) (tickets : ℕ → Signal) (x : Stmt) (w : Walk) (r : Row) : Type 0 where
@@ -267,9 +278,9 @@ walk_after (Verify true args) r ls w =
 walk_after SpecBarrier r ls w = record w { barrier = mux_signal r.on one w.barrier }
 walk_after (ReserveRead _ _) r ls w = w
 walk_after SpecCheck r ls w = w
-walk_after (AdviceBind _ _) r ls w = w
-walk_after (AdviceRead _ _ _) r ls w = w
-walk_after (AdviceWrite _ _ _) r ls w = w
+walk_after (AdviceBind x e) r ls w = with_var x r.value w
+walk_after (AdviceRead x m a) r ls w = with_var x r.value w
+walk_after (AdviceWrite m a e) r ls w = record w { advises = w.advises ++ record { mem = m; on = r.on; addr = w.vars a; value = r.value } ∷ [] }
 
 -- rows lead from one walk to another
 abbrev pub AreRows : Circuit → Pipe → Locks → (ℕ → Signal) → List Stmt → Walk → Walk → Type 0

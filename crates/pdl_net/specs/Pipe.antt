@@ -82,12 +82,12 @@ pub record IsAddress (m : PortMem) : Type 0 where
   pub low : 1 ≤ m.bits
   pub high : m.bits ≤ 16
 
--- an array of a memory that isn't delayed: that of a locked memory has its width and its depth or twice that, any other has a depth up to 65,536 and is never written
+-- an array of a memory that isn't delayed: that of a locked memory has its width and its depth or twice that, any other has a depth up to 65,536
 pub record IsPipeArray (delayed locked : List PortMem) (a : Array) : Type 0 where
   pub inside : All (λ m. m.name ≢ a.name) delayed
   pub width : All (λ m. m.name ≡ a.name → a.width ≡ m.width) locked
   pub depth : All (λ m. m.name ≡ a.name → (a.depth ≡ 2 ^ m.bits) ⊎ (a.depth ≡ 2 * 2 ^ m.bits)) locked
-  pub unlocked : All (λ m. m.name ≢ a.name) locked → (a.depth ≤ 65536) × (a.writes ≡ [])
+  pub unlocked : All (λ m. m.name ≢ a.name) locked → a.depth ≤ 65536
 
 -- a locked memory has the name of a delayed one or of an array
 abbrev pub IsKept : List PortMem → List Array → PortMem → Type 0

@@ -154,7 +154,7 @@ pipe k n p = record {
       inside = a.inside;
       width = a.width;
       depth = a.depth;
-      unlocked = λ none. let u = a.unlocked none in (u.0, ap (map (moved_write k)) u.1);
+      unlocked = a.unlocked;
     }
 
 -- a netlist pruned by a closed choice is well formed where the whole is

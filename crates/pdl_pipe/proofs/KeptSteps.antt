@@ -64,4 +64,5 @@ steps_keep l c i x locks forks es squash squashes tails commits apart s =
     let ce = but_keeps (regs_of 0 (length c.regs)) c s.e (s.to_nexts 0 apart) in
     let cf = keeps_trans c s.e s.f ce (extends_keeps s.e s.f s.to_tails) in
     let cg = keeps_trans c s.f s.g cf s.to_ports.keeps in
-    keeps_trans c s.h i (keeps_trans c s.g s.h cg s.to_orders.keeps) s.last.to_locks.keeps
+    let cj = keeps_trans c s.g s.j cg s.to_orders.keeps in
+    keeps_trans c s.last.h i (keeps_trans c s.j s.last.h cj s.last.to_advice.keeps) s.last.to_locks.keeps

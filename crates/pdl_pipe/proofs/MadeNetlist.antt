@@ -5,7 +5,6 @@ use Rattle.std.specs.Prelude.{Option}
 use Rattle.pdl_semantics.specs.Tree as tree
 use Rattle.pdl_semantics.specs.Flatten.{flat}
 use Rattle.pdl_rules.specs.Refusal.{KeepsRules}
-use Rattle.pdl_rules.specs.Unbuilt.{IsBuilt}
 use Rattle.pdl_source_paths.specs.Source.{is_source, is_named}
 use Rattle.pdl_form.specs.Form.{Form, form_of}
 use Rattle.pdl_net.specs.declared.Netlist.{Netlist}
@@ -77,10 +76,10 @@ module _ {T : Type 0} (l : Members T) (stays : Stays l) (p : tree.Pipe) (n : Net
     arrays = shapes_listed n ∙ law.shapes ∙ same_shapes p.mems;
   }
 
-  module _ (rules : KeepsRules p) (built : IsBuilt p) (source : is_source p ≡ true) (named : is_named p ≡ true) where
+  module _ (rules : KeepsRules p) (source : is_source p ≡ true) (named : is_named p ≡ true) where
     -- the netlist follows the pipe, where that is accepted
     pub follows_made : Follows p n
-    follows_made = follows p rules built source named ls vs gates moves sides n made
+    follows_made = follows p rules source named ls vs gates moves sides n made
 
     -- in each cycle its stages are as the machine's, and its locks are used as the machine's threads use them
     pub locks_made : HasLocks l p n
@@ -94,6 +93,6 @@ module _ {T : Type 0} (l : Members T) (stays : Stays l) (p : tree.Pipe) (n : Net
       stages = law.compiled.laid.stages;
       commits = emitted.nets.commits;
       stepped = law.stepped;
-      alike = stages_made p rules built source named ls vs gates moves sides n made;
-      used = used_locks l p rules built source named n (circuit_of n) locks law.locked.locked vs gates moves sides made;
+      alike = stages_made p rules source named ls vs gates moves sides n made;
+      used = used_locks l p rules source named n (circuit_of n) locks law.locked.locked vs gates moves sides made;
     }

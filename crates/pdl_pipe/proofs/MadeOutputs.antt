@@ -175,6 +175,7 @@ module _ {T : Type 0} (l : Members T) (n : Nets T) (em : Emission l n) where
       added.ports
       ∙ ap (λ (ps : List Port). ps ++ map (port_in em.i) (map output_of outs))
       (em.to_locks.ports
+      ∙ em.to_advice.ports
       ∙ em.to_orders.ports
       ∙ em.to_ports.ports
       ∙ em.to_tails.ports
@@ -189,6 +190,7 @@ module _ {T : Type 0} (l : Members T) (n : Nets T) (em : Emission l n) where
   shapes_made =
       em.shapes
       ∙ em.to_locks.shapes
+      ∙ em.to_advice.shapes
       ∙ em.to_orders.shapes
       ∙ em.to_ports.shapes
       ∙ em.to_tails.shapes

@@ -36,6 +36,7 @@ use Rattle.pdl_pipe_tails.specs.declared.whole.TailNets.{TailNets}
 use Rattle.pdl_pipe_tails.specs.Tails.{HasCut, IsRow}
 use Rattle.pdl_pipe_locks.specs.declared.deeds.StageDeeds.{StageDeeds}
 use Rattle.pdl_pipe_locks.specs.Deeds.{steps_in}
+use Rattle.pdl_pipe_locks.specs.Advised.{advises_in, ExtendsAdvice}
 use Rattle.pdl_pipe_locks.specs.Lawful.{AreLawful, AreUnwritten}
 use Rattle.pdl_pipe_locks.specs.Stepped.{own_of, AreStepped, ExtendsLocks}
 use Rattle.pdl_pipe_locks.specs.Suited.{shapes_in}
@@ -88,11 +89,13 @@ pub record HasMoves {T : Type 0} (l : Members T) (b : Circuit) (x : StageLine) (
   pub line_moves_are : x.moves.now ≡ y.moves.items
   pub line_kills_are : x.kills.now ≡ y.kills.items
 
--- the locks take what they should next, from circuit h to circuit i
-pub record HasLockSteps {T : Type 0} (l : Members T) (h i : Circuit) (x : StageLine) (locks : List (Option (MemLock T)))
+-- the arrays of advisory memories take what they should next, from circuit j to circuit h, and the locks, from there to circuit i
+pub record HasLockSteps {T : Type 0} (l : Members T) (j i : Circuit) (x : StageLine) (locks : List (Option (MemLock T)))
     (squash : Net) (cut : List Net) (commits : List (Option LockNets)) : Type 0 where
+  pub h : Circuit
   pub deeds : List StageDeeds
   pub are_deeds : AreDeedsOf x deeds
+  pub to_advice : ExtendsAdvice (line_pipe x) j h (advises_in j deeds)
   pub stepped : AreStepped l i (line_pipe x) (steps_in h (line_pipe x) deeds squash cut) locks commits (length (line_pipe x).mems)
   pub to_locks : ExtendsLocks locks (length (line_pipe x).mems) h i
 
@@ -103,7 +106,7 @@ pub record HasSteps {T : Type 0} (l : Members T) (c i : Circuit) (x : StageLine)
   pub e : Circuit
   pub f : Circuit
   pub g : Circuit
-  pub h : Circuit
+  pub j : Circuit
   pub takes : (k : ℕ) (s : StageNets) → k < length x.stages.now → IsAt x.stages.now k s → TakesNext c e x k s
   pub to_nexts : (high : ℕ) → AreApart high (length c.regs) x.stages.now → ExtendsBut (regs_of high (length c.regs)) c e
   pub cut : HasCut e f x squashes.verify tails (verify_stage (line_pipe x).stmts)
@@ -111,9 +114,9 @@ pub record HasSteps {T : Type 0} (l : Members T) (c i : Circuit) (x : StageLine)
   pub to_tails : Extends e f
   pub ports_stepped : (m : ℕ) → IsPortStepped f g (line_pipe x) es x.shared.now.ports.now m
   pub to_ports : ExtendsParts (own_at port_laws.own x.shared.now.ports.now) (length (line_pipe x).mems) f g
-  pub orders_stepped : (k : ℕ) → k < length (line_pipe x).stages → IsOrderStepped g h (line_pipe x) es squashes forks k
-  pub to_orders : ExtendsParts (own_at order_laws.own forks) (length (line_pipe x).stages) g h
-  pub last : HasLockSteps l h i x locks squash tails.cut commits
+  pub orders_stepped : (k : ℕ) → k < length (line_pipe x).stages → IsOrderStepped g j (line_pipe x) es squashes forks k
+  pub to_orders : ExtendsParts (own_at order_laws.own forks) (length (line_pipe x).stages) g j
+  pub last : HasLockSteps l j i x locks squash tails.cut commits
 
 -- ---- the whole
 

@@ -21,7 +21,7 @@ use pdl_lockapi::{LockModule, LockNets};
 use pdl_net::Net;
 use pdl_order::OrderRegs;
 use pdl_pipe_beside::{BesideRound, Squashes, StageEnd, order_steps, port_steps};
-use pdl_pipe_locks::{Round as LockRound, step};
+use pdl_pipe_locks::{Round as LockRound, advise, step};
 use pdl_pipe_nexts::{StageLine, connect};
 use pdl_pipe_tails::{TailNets, tails};
 use pdl_pipe_walk::MemLock;
@@ -45,7 +45,7 @@ pub struct Standing<'a, L> {
     pub squashes: Squashes,
 }
 
-// What the locks take next.
+// What the arrays of the advisory memories take next, and then the locks.
 fn lock_steps<L: LockModule>(
     alloc: Global,
     b: &mut Builder,
@@ -76,6 +76,7 @@ fn lock_steps<L: LockModule>(
         squash: all.squash,
         tails: cut,
     };
+    advise(b, &round)?;
     let nets = step(alloc, b, &round)?;
     Ok(nets)
 }

@@ -31,6 +31,7 @@ no_view =
       lettings = [];
       births = [];
       asks = [];
+      advises = [];
       guess = [];
       fails = zero_bit;
       barrier = zero_bit;

@@ -5,7 +5,6 @@ use Rattle.pdl_semantics.specs.Flat.{Op, Stmt}
 use Rattle.pdl_semantics.specs.Flatten.{flat, first_stages, mems_of}
 use Rattle.pdl_semantics.specs.Stages.{is_reserve, is_release}
 use Rattle.pdl_rules.specs.Refusal.{KeepsRules}
-use Rattle.pdl_rules.specs.Unbuilt.{IsBuilt}
 use Rattle.pdl_source_stages.proofs.Facts.{stage_facts}
 use Rattle.pdl_source_paths.specs.Source.{is_source, is_named}
 use Rattle.pdl_source_paths.proofs.Memories.{mems_length, stages_length}
@@ -33,9 +32,9 @@ both_walked : (f : Form) (xs : List Stmt) → AreTypedStmts f xs → Each (λ (x
 both_walked f [] t h = tt
 both_walked f (x ∷ xs) t h = ((t.0, h.0), both_walked f xs t.1 h.1)
 
--- nets can be emitted of a source that breaks no rule, has no form without circuit and no variable with the empty name
-pub can_emit : (p : Pipe) → KeepsRules p → IsBuilt p → is_source p ≡ true → is_named p ≡ true → CanEmit (form_of p)
-can_emit p rules built source named = record {
+-- nets can be emitted of a source that breaks no rule and has no variable with the empty name
+pub can_emit : (p : Pipe) → KeepsRules p → is_source p ≡ true → is_named p ≡ true → CanEmit (form_of p)
+can_emit p rules source named = record {
   typed = typed;
   walked = both_walked (form_of p) (flat p).stmts typed.stmts lawful.rows;
   reserves = one_each is_reserve (flat p).stmts p.mems;
@@ -55,4 +54,4 @@ can_emit p rules built source named = record {
     typed = typed_whole p rules named
 
     lawful : IsLawful (flat p)
-    lawful = lawful_source p rules built source named
+    lawful = lawful_source p rules source named

@@ -1,10 +1,10 @@
 -- The circuits of an emission: each keeps what those before it have, and most registers and arrays take next what they took.
-use Rattle.std.proofs.Common.{◌≡◌, refl, sym, subst, ℕ, ◌<◌, ◌≤◌, ◌∙◌, false, List, [], length, inr, arith}
+use Rattle.std.proofs.Common.{◌≡◌, refl, sym, ap, subst, ℕ, ◌<◌, ◌≤◌, ◌∙◌, false, List, [], ◌++◌, length, inr, arith}
 use Rattle.std.specs.Prelude.{Option, Some, None}
 use Rattle.pdl_semantics.specs.Flat.{Pipe, is_delayed}
 use Rattle.pdl_semantics.specs.Stages.{mem_at}
 use Rattle.pdl_net.specs.Circuit.{HasArray}
-use Rattle.pdl_net.specs.Meaning.{next_signal, write_signals}
+use Rattle.pdl_net.specs.Meaning.{WriteSignal, next_signal, write_signals}
 use Rattle.pdl_net.specs.Growth.{Outside, Keeps}
 use Rattle.pdl_net.proofs.Keeps.{keeps_trans, extends_keeps, but_keeps}
 use Rattle.pdl_lockapi.specs.Laws.{first_array, end_array, OwnKept}
@@ -19,8 +19,9 @@ use Rattle.pdl_pipe_walk.specs.declared.locks.MemLock.{MemLock}
 use Rattle.pdl_pipe_walk.specs.Locked.{Members, some_at}
 use Rattle.pdl_pipe_nexts.specs.Lines.{line_pipe}
 use Rattle.pdl_pipe_nexts.specs.Nexts.{regs_of}
+use Rattle.pdl_pipe_locks.specs.Advised.{advises_in}
 use Rattle.pdl_pipe_locks.specs.Stepped.{own_of}
-use Rattle.pdl_pipe_locks.proofs.Law.{plain_unwritten}
+use Rattle.pdl_pipe_locks.proofs.Law.{plain_writes}
 use Rattle.pdl_pipe_locks.proofs.Places.{own_place}
 use Rattle.pdl_pipe_emitted.specs.Emitted.{Nets, Emission}
 use Rattle.pdl_pipe_nexts.proofs.ConnectedRegisters.{has_low}
@@ -51,10 +52,14 @@ module _ {T : Type 0} (l : Members T) (n : Nets T) (em : Emission l n) where
   keeps_ef = extends_keeps em.e em.f em.to_tails
 
   -- the circuit after the steps of the orders keeps what the one with the tails has
-  pub keeps_fh : Keeps em.f em.h
-  keeps_fh = keeps_trans em.f em.g em.h em.to_ports.keeps em.to_orders.keeps
+  pub keeps_fj : Keeps em.f em.j
+  keeps_fj = keeps_trans em.f em.g em.j em.to_ports.keeps em.to_orders.keeps
 
-  -- the circuit after the steps of the locks keeps what the one after the steps of the orders has
+  -- the circuit after the advisory writes keeps what the one with the tails has
+  pub keeps_fh : Keeps em.f em.h
+  keeps_fh = keeps_trans em.f em.j em.h keeps_fj em.to_advice.keeps
+
+  -- the circuit after the steps of the locks keeps what the one after the advisory writes has
   pub keeps_hi : Keeps em.h em.i
   keeps_hi = em.to_locks.keeps
 
@@ -75,8 +80,12 @@ module _ {T : Type 0} (l : Members T) (n : Nets T) (em : Emission l n) where
   keeps_ag = keeps_trans em.a em.f em.g keeps_af em.to_ports.keeps
 
   -- the circuit after the steps of the orders keeps what the first circuit has
+  pub keeps_aj : Keeps em.a em.j
+  keeps_aj = keeps_trans em.a em.g em.j keeps_ag em.to_orders.keeps
+
+  -- the circuit after the advisory writes keeps what the first circuit has
   pub keeps_ah : Keeps em.a em.h
-  keeps_ah = keeps_trans em.a em.g em.h keeps_ag em.to_orders.keeps
+  keeps_ah = keeps_trans em.a em.j em.h keeps_aj em.to_advice.keeps
 
   -- the circuit after the steps of the locks keeps what the first circuit has
   pub keeps_ai : Keeps em.a em.i
@@ -86,19 +95,23 @@ module _ {T : Type 0} (l : Members T) (n : Nets T) (em : Emission l n) where
   pub keeps_ad : Keeps em.a em.d
   keeps_ad = keeps_trans em.a em.i em.d keeps_ai em.keeps
 
-  -- the circuit after the steps of the orders keeps what the one with the stages connected has
+  -- the circuit after the advisory writes keeps what the one with the stages connected has
   pub keeps_eh : Keeps em.e em.h
   keeps_eh = keeps_trans em.e em.f em.h keeps_ef keeps_fh
 
-  -- the circuit after the steps of the orders keeps what the one with the requests has
+  -- the circuit after the advisory writes keeps what the one with the requests has
   pub keeps_ch : Keeps em.c em.h
   keeps_ch = keeps_trans em.c em.e em.h keeps_ce keeps_eh
 
-  -- the circuit after the steps of the orders keeps what the one with the moves has
+  -- the circuit after the steps of the orders keeps what the one with the requests has
+  pub keeps_cj : Keeps em.c em.j
+  keeps_cj = keeps_trans em.c em.e em.j keeps_ce (keeps_trans em.e em.f em.j keeps_ef keeps_fj)
+
+  -- the circuit after the advisory writes keeps what the one with the moves has
   pub keeps_bh : Keeps em.b em.h
   keeps_bh = keeps_trans em.b em.c em.h keeps_bc keeps_ch
 
-  -- the last circuit keeps what the one after the steps of the orders has
+  -- the last circuit keeps what the one after the advisory writes has
   pub keeps_hd : Keeps em.h em.d
   keeps_hd = keeps_trans em.h em.i em.d keeps_hi em.keeps
 
@@ -146,14 +159,15 @@ module _ {T : Type 0} (l : Members T) (n : Nets T) (em : Emission l n) where
       let has = has_low em.a r to in
       em.nexts r (keeps_ai.has_reg r has)
       ∙ em.to_locks.nexts r (keeps_ah.has_reg r has) (after_lock r from)
+      ∙ em.to_advice.nexts r (keeps_aj.has_reg r has)
       ∙ em.to_orders.nexts r (keeps_ag.has_reg r has) (after_order r from)
       ∙ em.to_ports.nexts r (keeps_af.has_reg r has) (after_port r from)
       ∙ em.to_tails.nexts r (keeps_ae.has_reg r has)
 
   -- ---- arrays
 
-  -- nothing writes an array before the steps of the locks
-  pub unwritten_before : (m : ℕ) → m < length p.mems → is_delayed (mem_at p m).kind ≡ false → write_signals em.h (comb_place p m) ≡ []
+  -- nothing writes an array before the advisory writes
+  unwritten_before : (m : ℕ) → m < length p.mems → is_delayed (mem_at p m).kind ≡ false → write_signals em.j (comb_place p m) ≡ []
   unwritten_before m low once =
       let i = comb_place p m in
       let has = em.layout.locked.has_array m low once in
@@ -165,11 +179,14 @@ module _ {T : Type 0} (l : Members T) (n : Nets T) (em : Emission l n) where
       ∙ em.to_moves.writes i has
       ∙ em.layout.unwritten m low once
 
-  -- nor after them that of a memory without lock
-  pub unwritten_after : (m : ℕ) → m < length p.mems → is_locked p m ≡ false → is_delayed (mem_at p m).kind ≡ false → write_signals em.d (comb_place p m) ≡ []
-  unwritten_after m low free once =
+  -- nothing else writes that of a memory without lock
+  pub advised_after : (m : ℕ) → m < length p.mems → is_locked p m ≡ false → is_delayed (mem_at p m).kind ≡ false
+      → write_signals em.d (comb_place p m) ≡ advises_in em.j n.deeds m
+  advised_after m low free once =
       em.writes (comb_place p m) (keeps_ai.has_array (comb_place p m) (em.layout.locked.has_array m low once))
-      ∙ plain_unwritten l em.a p n.locks em.layout.locked em.layout.lawful em.h em.i m keeps_ah em.to_locks once (unwritten_before m low once) low free
+      ∙ plain_writes l em.a p n.locks em.layout.locked em.layout.lawful em.h em.i m keeps_ah em.to_locks once low free
+      ∙ em.to_advice.plain m low free once
+      ∙ ap (λ (ws : List WriteSignal). ws ++ advises_in em.j n.deeds m) (unwritten_before m low once)
 
   -- ---- registers and arrays of the locks
 

@@ -6,7 +6,6 @@ use Rattle.pdl_semantics.specs.Flat.{Pipe}
 use Rattle.pdl_semantics.specs.Flatten.{flat}
 use Rattle.pdl_semantics.specs.Machine as machine
 use Rattle.pdl_rules.specs.Refusal.{KeepsRules}
-use Rattle.pdl_rules.specs.Unbuilt.{IsBuilt}
 use Rattle.pdl_source_paths.specs.Source.{is_source, is_named}
 use Rattle.pdl_net.specs.declared.Netlist.{Netlist}
 use Rattle.pdl_net.specs.Circuit.{Circuit, State}
@@ -44,7 +43,7 @@ used_lock {T} l p c xs vs gates moves m y s st replies e used =
     (subst (λ w. IsUsedAs (ls.stands m) (ls.size m) w p m f s st replies) bits used))
 
 -- so it is of each lock of a netlist that is made of an accepted source, where each memory that asks for a lock has one
-pub used_locks : {T : Type 0} (l : Members T) (p : tree.Pipe) → KeepsRules p → IsBuilt p
+pub used_locks : {T : Type 0} (l : Members T) (p : tree.Pipe) → KeepsRules p
     → is_source p ≡ true → is_named p ≡ true → (n : Netlist) (c : Circuit) (locks : List (Option (MemLock T)))
     → ((m : ℕ) → m < length (flat p).mems → is_some (some_at locks m) ≡ is_locked (flat p) m)
     → (views : ℕ → View) (gates : Gates) (moves : ℕ → Signal) (sides : Sides)
@@ -54,9 +53,9 @@ pub used_locks : {T : Type 0} (l : Members T) (p : tree.Pipe) → KeepsRules p �
     → IsUsed l (flat p) m x (step_of (flat p) views gates moves m)
     (state_in (held_after n (start n image) schedule) bits) (machine_after (flat p) image schedule)
     (replies_of (delayed_count (flat p)) bits)
-used_locks l p rules built source named n c locks locked views gates moves sides made image schedule bits m x is_image low e =
+used_locks l p rules source named n c locks locked views gates moves sides made image schedule bits m x is_image low e =
     used_lock l (flat p) c locks views gates moves m x (state_in (held_after n (start n image) schedule) bits)
     (machine_after (flat p) image schedule) (replies_of (delayed_count (flat p)) bits) e
-    (used_made p rules built source named
+    (used_made p rules source named
     (locks_in l (flat p) c locks) views gates moves sides n made image schedule bits m is_image
     (sym (locked m low) ∙ ap is_some e))

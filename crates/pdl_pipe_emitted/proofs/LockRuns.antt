@@ -10,7 +10,6 @@ use Rattle.pdl_semantics.specs.Machine as machine
 use Rattle.pdl_semantics.specs.Moves.{Act, all_acts, movers}
 use Rattle.pdl_semantics.specs.Cycle.{first, cycle, state_after, all_releases, list_two, squasher}
 use Rattle.pdl_rules.specs.Refusal.{KeepsRules}
-use Rattle.pdl_rules.specs.Unbuilt.{IsBuilt}
 use Rattle.pdl_source_paths.specs.Source.{is_source, is_named}
 use Rattle.pdl_net.specs.declared.Netlist.{Netlist}
 use Rattle.pdl_net.specs.Circuit.{State}
@@ -104,41 +103,41 @@ stage_here p vs moves s st bits by k low seen = record {
 
 -- ---- runs
 
-module _ (p : tree.Pipe) (rules : KeepsRules p) (built : IsBuilt p) (source : is_source p ≡ true) (named : is_named p ≡ true) (ls : Locks)
+module _ (p : tree.Pipe) (rules : KeepsRules p) (source : is_source p ≡ true) (named : is_named p ≡ true) (ls : Locks)
     (vs : ℕ → View) (gates : Gates) (moves : ℕ → Signal) (sides : Sides) (n : Netlist) where
   module _ (made : IsMadeWhole p ls vs gates moves sides n) (image : List (List ℕ)) where
     abbrev far : Apart (mem_names p.mems) (length (flat p).mems)
-    far = apart p rules built source named ls vs gates moves sides n made
+    far = apart p rules source named ls vs gates moves sides n made
 
     abbrev law : IsLawful (flat p)
-    law = lawful p rules built source named ls vs gates moves sides n made
+    law = lawful p rules source named ls vs gates moves sides n made
 
     -- each state that a run comes to stands for the machine's
-    stands_from : (schedule : List ℕ) (h : Held) (st : machine.State) → IsStandingFor p rules built source named ls vs gates moves sides n made image h st
-        → IsStandingFor p rules built source named ls vs gates moves sides n made image (held_after n h schedule)
+    stands_from : (schedule : List ℕ) (h : Held) (st : machine.State) → IsStandingFor p rules source named ls vs gates moves sides n made image h st
+        → IsStandingFor p rules source named ls vs gates moves sides n made image (held_after n h schedule)
         (state_after (flat p) st (replies_in (flat p) schedule))
     stands_from [] h st x = x
     stands_from (b ∷ schedule) h st x =
         stands_from schedule (next n h b) (cycle (flat p) st (replies_of (delayed_count (flat p)) b))
         (stands_next (flat p)
         (mem_names p.mems) far law
-        (known_source p rules built source named) ls vs gates moves sides n made.compiled made.formed.well made.mems
+        (known_source p rules source named) ls vs gates moves sides n made.compiled made.formed.well made.mems
         (arrays_of (in_order (flat p) image)) h st x b)
 
     -- a cycle from such a state
-    module _ (h : Held) (st : machine.State) (x : IsStandingFor p rules built source named ls vs gates moves sides n made image h st) (b : ℕ) where
+    module _ (h : Held) (st : machine.State) (x : IsStandingFor p rules source named ls vs gates moves sides n made image h st) (b : ℕ) where
       knows : IsKnown (flat p) st (replies_of (delayed_count (flat p)) b)
       knows =
           runs.knows (flat p)
           (mem_names p.mems) far law
-          (known_source p rules built source named) ls vs gates moves sides n made.compiled made.formed.well made.mems
+          (known_source p rules source named) ls vs gates moves sides n made.compiled made.formed.well made.mems
           (arrays_of (in_order (flat p) image)) h st x b
 
       seen : (j : ℕ) → j < length (flat p).stages → IsSeen (flat p) vs moves (state_in h b) st (replies_of (delayed_count (flat p)) b) j
       seen =
           runs.seen (flat p)
           (mem_names p.mems) far law
-          (known_source p rules built source named) ls vs gates moves sides n made.compiled made.formed.well made.mems
+          (known_source p rules source named) ls vs gates moves sides n made.compiled made.formed.well made.mems
           (arrays_of (in_order (flat p) image)) h st x b
 
       used_standing : (m : ℕ) → is_locked (flat p) m ≡ true → IsUsedLock (flat p) ls vs gates moves (state_in h b) st (replies_of (delayed_count (flat p)) b) m
@@ -146,12 +145,12 @@ module _ (p : tree.Pipe) (rules : KeepsRules p) (built : IsBuilt p) (source : is
           let suits =
           runs.suits (flat p)
           (mem_names p.mems) far law
-          (known_source p rules built source named) ls vs gates moves sides n made.compiled made.formed.well made.mems
+          (known_source p rules source named) ls vs gates moves sides n made.compiled made.formed.well made.mems
           (arrays_of (in_order (flat p) image)) h st x b in
           used_here (flat p) ls vs gates moves (state_in h b) st (replies_of (delayed_count (flat p)) b) knows seen
           (runs.squashed (flat p)
           (mem_names p.mems) far law
-          (known_source p rules built source named) ls vs gates moves sides n made.compiled made.formed.well made.mems
+          (known_source p rules source named) ls vs gates moves sides n made.compiled made.formed.well made.mems
           (arrays_of (in_order (flat p) image)) h st x b)
           m locked ((x.whole b suits).stands.locks m locked) (made.compiled.laid.locks m locked).kind
           (λ k low. (made.compiled.laid.stages k low).tickets_wide m locked)
@@ -163,20 +162,20 @@ module _ (p : tree.Pipe) (rules : KeepsRules p) (built : IsBuilt p) (source : is
     whole : IsMadeWhole p ls vs gates moves sides n
     whole = record {
       compiled = made.compiled;
-      formed = (follows p rules built source named ls vs gates moves sides n made).well_formed;
+      formed = (follows p rules source named ls vs gates moves sides n made).well_formed;
       mems = has_mems (flat p) p.mems refl ls n made.in_order made.mems;
     }
 
     -- what the netlist holds after a schedule stands for the machine's state
     abbrev Reached : (image : List (List ℕ)) → List ℕ → Type 0
     Reached image schedule =
-        IsStandingFor p rules built source named ls vs gates moves sides n whole image (held_after n (start n image) schedule)
+        IsStandingFor p rules source named ls vs gates moves sides n whole image (held_after n (start n image) schedule)
         (machine_after (flat p) image schedule)
 
     reached : (image : List (List ℕ)) (schedule : List ℕ) → IsImage n.mems image → Reached image schedule
     reached image schedule is_image =
         stands_from whole image schedule (start n image) (first (flat p) (arrays_of (in_order (flat p) image)))
-        (stands_source p rules built source named ls vs gates moves sides n whole image is_image)
+        (stands_source p rules source named ls vs gates moves sides n whole image is_image)
 
     -- from each image, after each schedule, whatever is replied next, a memory's lock is used as the machine's threads use it
     pub used_made : (image : List (List ℕ)) (schedule : List ℕ) (bits m : ℕ) → IsImage n.mems image → is_locked (flat p) m ≡ true

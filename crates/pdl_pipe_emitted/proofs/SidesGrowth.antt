@@ -57,16 +57,20 @@ module _ {T : Type 0} (l : Members T) (n : Nets T) (em : Emission l n) where
   keeps_fg = em.to_ports.keeps
 
   -- the circuit after the steps of the orders keeps what the one after the steps of the ports has
-  pub keeps_gh : Keeps em.g em.h
-  keeps_gh = em.to_orders.keeps
+  pub keeps_gj : Keeps em.g em.j
+  keeps_gj = em.to_orders.keeps
 
-  -- the last circuit keeps what the one after the steps of the orders has
+  -- the last circuit keeps what the one after the advisory writes has
   pub keeps_hd : Keeps em.h em.d
   keeps_hd = keeps_trans em.h em.i em.d em.to_locks.keeps em.keeps
 
+  -- the last circuit keeps what the one after the steps of the orders has
+  pub keeps_jd : Keeps em.j em.d
+  keeps_jd = keeps_trans em.j em.h em.d em.to_advice.keeps keeps_hd
+
   -- the last circuit keeps what the one after the steps of the ports has
   pub keeps_gd : Keeps em.g em.d
-  keeps_gd = keeps_trans em.g em.h em.d keeps_gh keeps_hd
+  keeps_gd = keeps_trans em.g em.j em.d keeps_gj keeps_jd
 
   -- the last circuit keeps what the one with the tails has
   pub keeps_fd : Keeps em.f em.d
@@ -123,19 +127,21 @@ module _ {T : Type 0} (l : Members T) (n : Nets T) (em : Emission l n) where
   -- ---- registers that are left alone
 
   -- from the registers of the ports on, once the orders have their steps
-  after_orders : (r : ℕ) → em.low ≤ r → HasReg em.h r → next_signal em.d r ≡ next_signal em.h r
+  after_orders : (r : ℕ) → em.low ≤ r → HasReg em.j r → next_signal em.d r ≡ next_signal em.j r
   after_orders r low has =
-      em.nexts r (em.to_locks.keeps.has_reg r has)
-      ∙ em.to_locks.nexts r has (λ m k. let e = em.layout.locks_to m k in inr (omega (arith, e, low)))
+      let later = em.to_advice.keeps.has_reg r has in
+      em.nexts r (em.to_locks.keeps.has_reg r later)
+      ∙ em.to_locks.nexts r later (λ m k. let e = em.layout.locks_to m k in inr (omega (arith, e, low)))
+      ∙ em.to_advice.nexts r has
 
   -- the registers of the ports take next what they took once the ports had their steps
   pub ports_alone : (r : ℕ) → em.low ≤ r → r < em.mid → HasReg em.g r → next_signal em.d r ≡ next_signal em.g r
   ports_alone r low high has =
-      after_orders r low (keeps_gh.has_reg r has)
+      after_orders r low (keeps_gj.has_reg r has)
       ∙ em.to_orders.nexts r has (λ i k. part_above order_laws.own (some_at n.orders i) em.mid r (λ x e. em.layout.orders_from i x k e) high)
 
   -- the registers of the orders and later ones take next what they took once the orders had their steps
-  pub orders_alone : (r : ℕ) → em.mid ≤ r → HasReg em.h r → next_signal em.d r ≡ next_signal em.h r
+  pub orders_alone : (r : ℕ) → em.mid ≤ r → HasReg em.j r → next_signal em.d r ≡ next_signal em.j r
   orders_alone r low has = let order = em.layout.order.0 in after_orders r (omega (arith, order, low)) has
 
   -- the registers after those of the orders take next what they took once the tails had theirs
@@ -144,7 +150,7 @@ module _ {T : Type 0} (l : Members T) (n : Nets T) (em : Emission l n) where
       let order = em.layout.order in
       let first = order.0 in
       let second = order.1 in
-      after_orders r (omega (arith, first, second, low)) (keeps_gh.has_reg r (keeps_fg.has_reg r has))
+      after_orders r (omega (arith, first, second, low)) (keeps_gj.has_reg r (keeps_fg.has_reg r has))
       ∙ em.to_orders.nexts r (keeps_fg.has_reg r has)
       (λ i k. part_below order_laws.own (some_at n.orders i) em.high r (λ x e. em.layout.orders_to i x k e) low)
       ∙ em.to_ports.nexts r has
@@ -175,12 +181,12 @@ module _ {T : Type 0} (l : Members T) (n : Nets T) (em : Emission l n) where
 
   -- what the registers of a fork's order take next stays as it is once the orders have their steps
   pub order_kept : (i : ℕ) (q : OrderRegs) → i < length p.stages → some_at n.orders i ≡ Some q
-      → HasOwn em.a (order_laws.own q) → OwnKept (order_laws.own q) em.h em.d
+      → HasOwn em.a (order_laws.own q) → OwnKept (order_laws.own q) em.j em.d
   order_kept i q k e own =
       let low = em.layout.orders_from i q k e in
       record {
         has_reg = λ r from to. keeps_ad.has_reg r (own.regs r from to);
-        nexts = λ r from to. orders_alone r (omega (arith, low, from)) (keeps_gh.has_reg r (keeps_ag.has_reg r (own.regs r from to)));
+        nexts = λ r from to. orders_alone r (omega (arith, low, from)) (keeps_gj.has_reg r (keeps_ag.has_reg r (own.regs r from to)));
         has_array = λ j from to. absurd (omega (arith, to));
         writes = λ j from to. absurd (omega (arith, to));
       }

@@ -139,7 +139,7 @@ module _ {T : Type 0} (l : Members T) (n : Nets T) (em : Emission l n) where
 
   orders_step : (f : ℕ) → f < length p.stages → IsOrderStepped em.g em.d p n.ends n.moves.squashes n.orders f
   orders_step f low =
-      order_stays_stepped em.g em.h em.d p n.ends n.moves.squashes n.orders f
+      order_stays_stepped em.g em.j em.d p n.ends n.moves.squashes n.orders f
       (λ r e. order_kept l n em f r low e (em.layout.stand_orders.each f r low e).owned) (em.orders_stepped f low)
 
   -- the orders of merged forks have their laws

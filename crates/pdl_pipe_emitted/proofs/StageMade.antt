@@ -189,7 +189,7 @@ module _ (a c d : Circuit) (x : StageLine) (nexts : List Signal) (answers : ℕ 
             (sym here) (st.rows d made.after made.well);
         fresh =
             subst (λ (u : View). IsFresh u.begun) (sym here)
-            (record { ready = refl; reserves = refl; puts = refl; lettings = refl; births = refl; asks = refl; fails = refl; barrier = refl });
+            (record { ready = refl; reserves = refl; puts = refl; lettings = refl; births = refl; asks = refl; advises = refl; fails = refl; barrier = refl });
         leaves = leaves;
         valid_start =
             subst (λ (u : View). StartsAs d u.valid (if k == 0 then 1 else 0)) (sym here) (starts_at c d made.after 1 s.regs.valid _ st.registers.valid);

@@ -48,6 +48,7 @@ use Rattle.pdl_pipe_tails.specs.declared.whole.TailNets.{TailNets}
 use Rattle.pdl_pipe_tails.specs.Tails.{HasCut, IsRow, tails_in}
 use Rattle.pdl_pipe_locks.specs.declared.deeds.StageDeeds.{StageDeeds}
 use Rattle.pdl_pipe_locks.specs.Deeds.{steps_in}
+use Rattle.pdl_pipe_locks.specs.Advised.{advises_in, ExtendsAdvice}
 use Rattle.pdl_pipe_locks.specs.Lawful.{AreLawful, AreUnwritten}
 use Rattle.pdl_pipe_locks.specs.Stepped.{own_of, AreStepped, ExtendsLocks}
 use Rattle.pdl_pipe_locks.specs.Suited.{shapes_in}
@@ -141,6 +142,7 @@ pub record Emission {T : Type 0} (l : Members T) (n : Nets T) : Type 0 where
   pub e : Circuit
   pub f : Circuit
   pub g : Circuit
+  pub j : Circuit
   pub h : Circuit
   pub i : Circuit
   pub d : Circuit
@@ -158,7 +160,7 @@ pub record Emission {T : Type 0} (l : Members T) (n : Nets T) : Type 0 where
   pub deeds : AreDeedsOf n.line n.deeds
   pub to_requests : Extends b c
   pub asked : AreRequests b c (line_pipe n.line) n.ends n.requests (length (line_pipe n.line).mems)
-  -- what the registers of stages, tails, ports, orders and locks take next
+  -- what the registers of stages, tails, ports, orders and locks take next, and before the locks the arrays of advisory memories
   pub line : IsLineIn c n.line
   pub takes : (k : ℕ) (s : StageNets) → k < length n.line.stages.now → IsAt n.line.stages.now k s → TakesNext c e n.line k s
   pub to_nexts : ExtendsBut (regs_of high (length c.regs)) c e
@@ -167,8 +169,9 @@ pub record Emission {T : Type 0} (l : Members T) (n : Nets T) : Type 0 where
   pub to_tails : Extends e f
   pub ports_stepped : (m : ℕ) → IsPortStepped f g (line_pipe n.line) n.ends n.line.shared.now.ports.now m
   pub to_ports : ExtendsParts (own_at port_laws.own n.line.shared.now.ports.now) (length (line_pipe n.line).mems) f g
-  pub orders_stepped : (k : ℕ) → k < length (line_pipe n.line).stages → IsOrderStepped g h (line_pipe n.line) n.ends n.moves.squashes n.orders k
-  pub to_orders : ExtendsParts (own_at order_laws.own n.orders) (length (line_pipe n.line).stages) g h
+  pub orders_stepped : (k : ℕ) → k < length (line_pipe n.line).stages → IsOrderStepped g j (line_pipe n.line) n.ends n.moves.squashes n.orders k
+  pub to_orders : ExtendsParts (own_at order_laws.own n.orders) (length (line_pipe n.line).stages) g j
+  pub to_advice : ExtendsAdvice (line_pipe n.line) j h (advises_in j n.deeds)
   pub stepped : AreStepped l i (line_pipe n.line)
       (steps_in h (line_pipe n.line) n.deeds n.moves.squash n.tails.cut) n.locks n.commits (length (line_pipe n.line).mems)
   pub to_locks : ExtendsLocks n.locks (length (line_pipe n.line).mems) h i

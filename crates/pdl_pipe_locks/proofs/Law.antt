@@ -1,5 +1,5 @@
 -- What is known of each lock in the whole netlist.
-use Rattle.std.proofs.Common.{◌≡◌, ℕ, ◌+◌, ◌^◌, ◌<◌, ◌≤◌, ◌∙◌, true, false, List, [], length, refl, sym, ap, ap₂, subst, arith, inl, inr}
+use Rattle.std.proofs.Common.{◌≡◌, ℕ, ◌+◌, ◌^◌, ◌<◌, ◌≤◌, ◌∙◌, true, false, List, length, refl, sym, ap, ap₂, subst, arith, inl, inr}
 use Rattle.std.specs.Prelude.{Option, Some, None, is_some}
 use Rattle.std.proofs.lemmas.Bool.{cases_lt, false≢true}
 use Rattle.pdl_semantics.specs.Flat.{Mem, Pipe, is_delayed}
@@ -236,12 +236,12 @@ module _ {T : Type 0} (l : Members T) (a : Circuit) (p : Pipe) (xs : List (Optio
   pub nexts_after : (b c : Circuit) (k : ℕ) → ExtendsLocks xs (length p.mems) b c → HasReg b k → length a.regs ≤ k → next_signal c k ≡ next_signal b k
   nexts_after b c k x h low = x.nexts k h (λ m u. let d = locks_end m u in inr (omega (arith, d, low)))
 
-  -- nothing writes the array of a memory without lock
-  pub plain_unwritten : (b c : Circuit) (m : ℕ) → Keeps a b → ExtendsLocks xs (length p.mems) b c
-      → is_delayed (mem_at p m).kind ≡ false → write_signals b (comb_place p m) ≡ [] → m < length p.mems → is_locked p m ≡ false
-      → write_signals c (comb_place p m) ≡ []
-  plain_unwritten b c m k x once e low h =
-      x.writes (comb_place p m) (k.has_array (comb_place p m) (locked.has_array m low once)) (λ j u. outside j u (some_at xs j) refl) ∙ e
+  -- the array of a memory without lock keeps its write ports
+  pub plain_writes : (b c : Circuit) (m : ℕ) → Keeps a b → ExtendsLocks xs (length p.mems) b c
+      → is_delayed (mem_at p m).kind ≡ false → m < length p.mems → is_locked p m ≡ false
+      → write_signals c (comb_place p m) ≡ write_signals b (comb_place p m)
+  plain_writes b c m k x once low h =
+      x.writes (comb_place p m) (k.has_array (comb_place p m) (locked.has_array m low once)) (λ j u. outside j u (some_at xs j) refl)
     where
       outside : (j : ℕ) → j < length p.mems → (o : Option (MemLock T)) → some_at xs j ≡ o → Outside (own_of o).first (own_of o).last (comb_place p m)
       outside j u None f = inr (omega arith)

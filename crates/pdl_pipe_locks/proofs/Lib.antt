@@ -6,6 +6,8 @@ pub mod DeedsFit
 pub mod LockGrowth
 pub mod LockSteps
 pub mod Places
+pub mod AdviceGrowth
+pub mod AdviceStages
 pub mod NewLock
 pub mod MadeMemories
 pub mod Law

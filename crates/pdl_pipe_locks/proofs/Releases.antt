@@ -12,7 +12,7 @@ use Rattle.pdl_pipe_exprs.specs.declared.bits.Bits.{Bits}
 use Rattle.pdl_pipe_exprs.specs.Conditions.{AreBits}
 use Rattle.pdl_law_parts.specs.Walk.{Letting, one, zero_bit, both}
 use Rattle.pdl_law_parts.specs.Views.{View}
-use Rattle.pdl_law_parts.specs.Ports.{release_moves, release_signal, second_moves, second_signal}
+use Rattle.pdl_law_parts.specs.Ports.{release_moves, second_moves}
 use Rattle.pdl_pipe_walk.specs.declared.nets.LettingNet.{LettingNet}
 use Rattle.pdl_pipe_walk.specs.Parts.{letting_in}
 use Rattle.pdl_pipe_locks.specs.declared.deeds.StageDeeds.{StageDeeds}

@@ -30,6 +30,7 @@ no_parts =
       lettings = [];
       births = [];
       asks = [];
+      advises = [];
       guess = [];
       fails = zero_bit;
       barrier = zero_bit;

@@ -1,5 +1,5 @@
 -- The laws of the locks in a circuit, which hold as they are made and stay as it grows.
-use Rattle.std.specs.Prelude.{◌≡◌, ℕ, ◌<◌, ◌≤◌, false, List, [], length, Option, Some}
+use Rattle.std.specs.Prelude.{◌≡◌, ℕ, ◌<◌, ◌≤◌, true, false, List, [], length, Option, Some}
 use Rattle.pdl_semantics.specs.Tree.{LockKind}
 use Rattle.pdl_semantics.specs.Flat.{Pipe, is_delayed}
 use Rattle.pdl_semantics.specs.Stages.{mem_at}
@@ -10,6 +10,7 @@ use Rattle.pdl_lockapi.specs.Lock.{LockState}
 use Rattle.pdl_lockapi.specs.Laws.{first_reg, end_reg, words_of, StartLaw, PlacesLaw, RoomLaw, TicketLaw}
 use Rattle.pdl_lockapi.specs.Second.{Room2Law}
 use Rattle.pdl_lockapi.specs.Forget.{as_lock}
+use Rattle.pdl_law_parts.specs.Walk.{is_locked}
 use Rattle.pdl_law_parts.specs.Places.{comb_place}
 use Rattle.pdl_pipe_walk.specs.declared.locks.MemLock.{MemLock}
 use Rattle.pdl_pipe_walk.specs.Locked.{Members, some_at}
@@ -39,6 +40,11 @@ pub record AreLawful {T : Type 0} (l : Members T) (c : Circuit) (p : Pipe) (xs :
 -- the locks' registers are above those of a circuit
 abbrev pub AreAbove : {T : Type 0} → Circuit → Pipe → List (Option (MemLock T)) → Type 0
 AreAbove {T} c p xs = (m : ℕ) (x : MemLock T) → m < length p.mems → some_at xs m ≡ Some x → length c.regs ≤ first_reg x.regs
+
+-- no port writes the array of a memory with a lock
+abbrev pub AreLocksUnwritten : Circuit → Pipe → Type 0
+AreLocksUnwritten c p =
+    (m : ℕ) → m < length p.mems → is_locked p m ≡ true → is_delayed (mem_at p m).kind ≡ false → write_signals c (comb_place p m) ≡ []
 
 -- no port writes the memories' arrays
 abbrev pub AreUnwritten : Circuit → Pipe → Type 0

@@ -5,3 +5,4 @@ pub mod Deeds
 pub mod Ports
 pub mod Round
 pub mod Stepped
+pub mod Advised

@@ -10,7 +10,7 @@ ghost use Rattle.pdl_word.specs.Each.{Each};
 ghost use Rattle.pdl_pipe_locks.specs.Deeds.{view_in, views_in, moves_in};
 ghost use Rattle.pdl_pipe_locks.specs.Ports.{IsGivenReserve, IsGivenPut, IsGivenLetting, IsGiven, IsThereReserve, IsThereWrite, AreReserves, AreWrites, AddsReserves, AddsWrites, HaveReleases, AreReleases, releases_signal, second_with, releases_after, releases_of, ArePorts, signals_of};
 
-use crate::deeds::StageDeeds;
+use crate::deeds::{StageDeeds, deed_at};
 use pdl_build::Builder;
 use pdl_kit::{NoMemory, Seq};
 use pdl_law_parts::Mark;
@@ -33,14 +33,6 @@ pub struct ReleaseNets {
 pub struct SquashNets {
     pub on: Net,
     pub tail: Net,
-}
-
-// The stage of a number.
-fn deed_at<'d>(deeds: &[StageDeeds<'d>], k: usize) -> StageDeeds<'d>
-    requires { k < length deeds.now }
-    ensures { result ≡ slice_index_or deeds.now k result }
-{
-    deeds[k]
 }
 
 // The net of a number.

@@ -1,5 +1,5 @@
 // What the locks of the memories take next.
-ghost use Rattle.std.specs.Prelude.{◌≡◌, ℕ, ◌<◌, [], Some, false, IfOk, OnOk, length, slice_index_or};
+ghost use Rattle.std.specs.Prelude.{◌≡◌, ℕ, ◌<◌, [], Some, true, false, IfOk, OnOk, length, slice_index_or};
 ghost use Rattle.pdl_semantics.specs.Flat.{is_delayed};
 ghost use Rattle.pdl_semantics.specs.Stages.{mem_at};
 ghost use Rattle.pdl_form.specs.FormView.{form};
@@ -10,10 +10,11 @@ ghost use Rattle.pdl_lockapi.specs.Laws.{own, HasNoPorts, HasCommitNets, HidesLa
 ghost use Rattle.pdl_lockapi.specs.Second.{Commit2Law};
 ghost use Rattle.pdl_pipe_exprs.specs.Nets.{NetsThere};
 ghost use Rattle.pdl_pipe_exprs.specs.Conditions.{AreBits};
+ghost use Rattle.pdl_law_parts.specs.Walk.{is_locked};
 ghost use Rattle.pdl_law_parts.specs.Places.{comb_place};
 ghost use Rattle.pdl_word.specs.Each.{Each};
 ghost use Rattle.pdl_pipe_walk.specs.Locked.{members, some_at};
-ghost use Rattle.pdl_pipe_locks.specs.Lawful.{AreLawful, AreUnwritten};
+ghost use Rattle.pdl_pipe_locks.specs.Lawful.{AreLawful, AreLocksUnwritten};
 ghost use Rattle.pdl_pipe_locks.specs.Round.{HasRoundLocks, HasRoundDeeds, HasRoundSquash, HasRoundTwice, round_signals, round_steps};
 ghost use Rattle.pdl_pipe_locks.specs.Ports.{IsGiven, SignalsFit};
 ghost use Rattle.pdl_pipe_locks.specs.Stepped.{own_of, IsSteppedMemory, AreStepped, ExtendsLocks};
@@ -116,7 +117,8 @@ fn memory_step<L: LockModule>(
     requires low { m < length (form round.now.pipe.now).pipe.mems }
     requires bits { AreBits b.old round.now.bits }
     requires locked { HasRoundLocks (members L.LockModule) b.old round.now }
-    requires unwritten { is_delayed (mem_at (form round.now.pipe.now).pipe m).kind ≡ false →
+    requires unwritten { is_locked (form round.now.pipe.now).pipe m ≡ true →
+        is_delayed (mem_at (form round.now.pipe.now).pipe m).kind ≡ false →
         write_signals b.old (comb_place (form round.now.pipe.now).pipe m) ≡ [] }
     requires twice { HasRoundTwice round.now }
     requires deeds { HasRoundDeeds (members L.LockModule) b.old round.now }
@@ -137,7 +139,7 @@ fn memory_step<L: LockModule>(
 
 /// The steps of the locks of all memories, in declared order: the nets of what each memory with a lock commits.
 ///
-/// The deeds have one for each stage, in order; no array was written before.
+/// The deeds have one for each stage, in order; no array of a memory with a lock was written before.
 pub fn step<L: LockModule>(
     alloc: Global,
     b: &mut Builder,
@@ -147,7 +149,7 @@ pub fn step<L: LockModule>(
     requires locked { HasRoundLocks (members L.LockModule) b.old round.now }
     requires lawful { AreLawful (members L.LockModule) b.old
         (form round.now.pipe.now).pipe round.now.locks.now }
-    requires unwritten { AreUnwritten b.old (form round.now.pipe.now).pipe }
+    requires unwritten { AreLocksUnwritten b.old (form round.now.pipe.now).pipe }
     requires twice { HasRoundTwice round.now }
     requires deeds { HasRoundDeeds (members L.LockModule) b.old round.now }
     requires squash { HasRoundSquash (members L.LockModule) b.old round.now }

@@ -31,8 +31,9 @@ use Rattle.pdl_pipe_walk.specs.declared.nets.PutNet.{PutNet}
 use Rattle.pdl_pipe_walk.specs.declared.nets.LettingNet.{LettingNet}
 use Rattle.pdl_pipe_walk.specs.declared.nets.BirthNet.{BirthNet}
 use Rattle.pdl_pipe_walk.specs.declared.nets.AskNet.{AskNet}
-use Rattle.pdl_pipe_walk.specs.Parts.{MarkSignal, mark_in, mark_of, reservation_in, put_in, letting_in, birth_in, ask_in, parts_in, walk_of}
-use Rattle.pdl_pipe_walk.specs.Sized.{IsWalk, IsSizedReserve, IsSizedPut, IsSizedBirth, IsSizedAsk}
+use Rattle.pdl_pipe_walk.specs.declared.nets.AdvisingNet.{AdvisingNet}
+use Rattle.pdl_pipe_walk.specs.Parts.{MarkSignal, mark_in, mark_of, reservation_in, put_in, letting_in, birth_in, ask_in, advising_in, parts_in, walk_of}
+use Rattle.pdl_pipe_walk.specs.Sized.{IsWalk, IsSizedReserve, IsSizedPut, IsSizedBirth, IsSizedAsk, IsSizedAdvising}
 use Rattle.pdl_pipe_registers.specs.declared.nets.Item.{Item}
 use Rattle.pdl_pipe_registers.specs.declared.nets.Item.TheVariants.{Var, Mark, Ticket, Guess}
 use Rattle.pdl_pipe_registers.specs.declared.nets.StageRegs.{StageRegs}
@@ -202,9 +203,10 @@ module _ (c : Circuit) (f : Form) (nexts : List Signal) (answers : ℕ → ℕ �
       let e7 : map (birth_in c) s.end.births.items ≡ [] = ap (map (birth_in c)) fresh.births in
       let e8 : signals_in c s.end.guess ≡ signals_in c s.guess = ap (signals_in c) fresh.guess_is in
       let e9 : map (ask_in c) s.end.asks ≡ [] = ap (map (ask_in c)) fresh.asks in
+      let e12 : map (advising_in c) s.end.advises ≡ [] = ap (map (advising_in c)) fresh.advises in
       let e10 : signal c s.end.fails ≡ zero_bit = ap (signal c) fresh.fails ∙ h.bits_are.zero.same in
       let e11 : signal c s.end.barrier ≡ zero_bit = ap (signal c) fresh.barrier ∙ h.bits_are.zero.same in
-      cc (e1, e2, e3, e4, e5, e6, e7, e8, e9, e10, e11)
+      cc (e1, e2, e3, e4, e5, e6, e7, e8, e9, e10, e11, e12)
 
   -- the nets of the stage's fresh walk are there, with their widths
   pub walk_is : IsWalk c f.pipe f.widths s.end
@@ -218,6 +220,8 @@ module _ (c : Circuit) (f : Form) (nexts : List Signal) (answers : ℕ → ℕ �
       lettings = subst (λ (l : List LettingNet). Each (λ (x : LettingNet). IsThere c x.on) l) (sym fresh.lettings) tt;
       births = subst (λ (l : List BirthNet). Each (λ (x : BirthNet). IsThere c x.on × NetsThere c x.args) l) (sym fresh.births) tt;
       asks = subst (λ (l : List AskNet). Each (λ (x : AskNet). IsThere c x.on × IsThere c x.addr) l) (sym fresh.asks) tt;
+      advises =
+          subst (λ (l : List AdvisingNet). Each (λ (x : AdvisingNet). IsThere c x.on × IsThere c x.addr × IsThere c x.value) l) (sym fresh.advises) tt;
       guess = subst (NetsThere c) (sym fresh.guess_is) h.guess.there;
       fails = subst (IsThere c) (sym fresh.fails) h.bits_are.zero.there;
       barrier = subst (IsThere c) (sym fresh.barrier) h.bits_are.zero.there;
@@ -231,6 +235,7 @@ module _ (c : Circuit) (f : Form) (nexts : List Signal) (answers : ℕ → ℕ �
       lettings = subst (λ (l : List LettingNet). Each (λ (x : Letting). x.on.width ≡ 1) (map (letting_in c) l)) (sym fresh.lettings) tt;
       births = subst (λ (l : List BirthNet). Each (IsSizedBirth f.pipe f.widths) (map (birth_in c) l)) (sym fresh.births) tt;
       asks = subst (λ (l : List AskNet). Each (IsSizedAsk f.pipe) (map (ask_in c) l)) (sym fresh.asks) tt;
+      advises = subst (λ (l : List AdvisingNet). Each (IsSizedAdvising f.pipe) (map (advising_in c) l)) (sym fresh.advises) tt;
       guess = ap (λ (l : List Net). widths_of (signals_in c l)) fresh.guess_is ∙ h.guess.wide;
       fails = ap (λ (x : Net). (signal c x).width) fresh.fails ∙ ap (λ (g : Signal). g.width) h.bits_are.zero.same;
       barrier = ap (λ (x : Net). (signal c x).width) fresh.barrier ∙ ap (λ (g : Signal). g.width) h.bits_are.zero.same;

@@ -189,5 +189,6 @@ pub record IsFresh (bits : Bits) (vars : List Net) (marks : List MarkNet) (guess
   pub lettings : w.lettings ≡ []
   pub births : w.births.items ≡ []
   pub asks : w.asks ≡ []
+  pub advises : w.advises ≡ []
   pub fails : w.fails ≡ bits.zero
   pub barrier : w.barrier ≡ bits.zero

@@ -225,6 +225,7 @@ fn begin_walk(
         lettings: Seq::new(alloc),
         births: Vec::new(alloc),
         asks: Seq::new(alloc),
+        advises: Seq::new(alloc),
         guess: Seq::from_vec(Vec::from_slice(alloc, guess)?),
         fails: bits.zero,
         barrier: bits.zero,

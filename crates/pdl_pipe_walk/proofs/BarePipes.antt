@@ -17,10 +17,11 @@ use Rattle.pdl_pipe_walk.specs.declared.nets.PutNet.{PutNet}
 use Rattle.pdl_pipe_walk.specs.declared.nets.LettingNet.{LettingNet}
 use Rattle.pdl_pipe_walk.specs.declared.nets.BirthNet.{BirthNet}
 use Rattle.pdl_pipe_walk.specs.declared.nets.AskNet.{AskNet}
+use Rattle.pdl_pipe_walk.specs.declared.nets.AdvisingNet.{AdvisingNet}
 use Rattle.pdl_pipe_walk.specs.declared.nets.WalkNets.{WalkNets}
-use Rattle.pdl_pipe_walk.specs.Parts.{MarkSignal, mark_in, reservation_in, put_in, letting_in, birth_in, ask_in}
+use Rattle.pdl_pipe_walk.specs.Parts.{MarkSignal, mark_in, reservation_in, put_in, letting_in, birth_in, ask_in, advising_in}
 use Rattle.pdl_pipe_walk.specs.Locked.{Members, AreLocked, AreTickets}
-use Rattle.pdl_pipe_walk.specs.Sized.{IsSizedReserve, IsSizedPut, IsSizedBirth, IsSizedAsk, IsWalk, AreWalked}
+use Rattle.pdl_pipe_walk.specs.Sized.{IsSizedReserve, IsSizedPut, IsSizedBirth, IsSizedAsk, IsSizedAdvising, IsWalk, AreWalked}
 use Rattle.pdl_word.specs.Each.{Each}
 
 -- nets can be made of a call without arguments
@@ -74,10 +75,10 @@ take_none (suc n) = refl
 -- the nets of a walk without variables that has done nothing are there
 pub bare_walk : (c : Circuit) (p : Pipe) (ws : List ℕ) (w : WalkNets)
     → ws ≡ [] → w.vars.items ≡ [] → w.marks.items ≡ [] → IsThere c w.ready → (signal c w.ready).width ≡ 1
-    → w.reserves ≡ [] → w.puts ≡ [] → w.lettings ≡ [] → w.births.items ≡ [] → w.asks ≡ [] → w.guess ≡ []
+    → w.reserves ≡ [] → w.puts ≡ [] → w.lettings ≡ [] → w.births.items ≡ [] → w.asks ≡ [] → w.advises ≡ [] → w.guess ≡ []
     → IsThere c w.fails → (signal c w.fails).width ≡ 1 → IsThere c w.barrier → (signal c w.barrier).width ≡ 1
     → IsWalk c p ws w
-bare_walk c p ws w e e1 e2 t o e4 e5 e6 e7 e8 e9 t1 o1 t2 o2 = record {
+bare_walk c p ws w e e1 e2 t o e4 e5 e6 e7 e8 e10 e9 t1 o1 t2 o2 = record {
   there = record {
     vars = subst (NetsThere c) (sym e1) tt;
     marks = subst (λ (l : List MarkNet). Each (λ (h : MarkNet). IsThere c h.net) l) (sym e2) tt;
@@ -87,6 +88,7 @@ bare_walk c p ws w e e1 e2 t o e4 e5 e6 e7 e8 e9 t1 o1 t2 o2 = record {
     lettings = subst (λ (l : List LettingNet). Each (λ (x : LettingNet). IsThere c x.on) l) (sym e6) tt;
     births = subst (λ (l : List BirthNet). Each (λ (x : BirthNet). IsThere c x.on × NetsThere c x.args) l) (sym e7) tt;
     asks = subst (λ (l : List AskNet). Each (λ (x : AskNet). IsThere c x.on × IsThere c x.addr) l) (sym e8) tt;
+    advises = subst (λ (l : List AdvisingNet). Each (λ (x : AdvisingNet). IsThere c x.on × IsThere c x.addr × IsThere c x.value) l) (sym e10) tt;
     guess = subst (NetsThere c) (sym e9) tt;
     fails = t1;
     barrier = t2;
@@ -100,6 +102,7 @@ bare_walk c p ws w e e1 e2 t o e4 e5 e6 e7 e8 e9 t1 o1 t2 o2 = record {
     lettings = subst (λ (l : List LettingNet). Each (λ (x : Letting). x.on.width ≡ 1) (map (letting_in c) l)) (sym e6) tt;
     births = subst (λ (l : List BirthNet). Each (IsSizedBirth p ws) (map (birth_in c) l)) (sym e7) tt;
     asks = subst (λ (l : List AskNet). Each (IsSizedAsk p) (map (ask_in c) l)) (sym e8) tt;
+    advises = subst (λ (l : List AdvisingNet). Each (IsSizedAdvising p) (map (advising_in c) l)) (sym e10) tt;
     guess = ap (λ (l : List Net). widths_of (signals_in c l)) e9 ∙ sym (ap (take (length p.start)) e ∙ take_none (length p.start));
     fails = o1;
     barrier = o2;

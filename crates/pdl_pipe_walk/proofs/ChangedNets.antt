@@ -14,20 +14,22 @@ use Rattle.pdl_pipe_exprs.specs.Nets.{NetsThere, signals_in, signal_at, widths_o
 use Rattle.pdl_law_parts.specs.declared.Mark.{Mark}
 use Rattle.pdl_law_parts.specs.declared.Mark.TheVariants.{Held}
 use Rattle.pdl_law_parts.specs.Walk.{Locks, one, both, if_on}
+use Rattle.pdl_law_parts.specs.Rows.{IsUnlocked}
 use Rattle.pdl_pipe_walk.specs.declared.nets.MarkNet.{MarkNet}
 use Rattle.pdl_pipe_walk.specs.declared.nets.ReserveNet.{ReserveNet}
 use Rattle.pdl_pipe_walk.specs.declared.nets.PutNet.{PutNet}
 use Rattle.pdl_pipe_walk.specs.declared.nets.LettingNet.{LettingNet}
 use Rattle.pdl_pipe_walk.specs.declared.nets.BirthNet.{BirthNet}
 use Rattle.pdl_pipe_walk.specs.declared.nets.AskNet.{AskNet}
+use Rattle.pdl_pipe_walk.specs.declared.nets.AdvisingNet.{AdvisingNet}
 use Rattle.pdl_pipe_walk.specs.declared.nets.WalkNets.{WalkNets}
-use Rattle.pdl_pipe_walk.specs.Parts.{Parts, mark_of, reservation_in, letting_in, ask_in, parts_in, IsThereWalk}
+use Rattle.pdl_pipe_walk.specs.Parts.{Parts, mark_of, reservation_in, letting_in, ask_in, advising_in, parts_in, IsThereWalk}
 use Rattle.pdl_pipe_walk.specs.Frames.{SameRest}
 use Rattle.pdl_pipe_walk.specs.Sized.{IsSized, IsWalk}
-use Rattle.pdl_pipe_walk.specs.Steps.{with_var, with_put, with_mark, with_room, with_reservation, with_reserve, with_call, with_ask}
+use Rattle.pdl_pipe_walk.specs.Steps.{with_var, with_put, with_mark, with_room, with_reservation, with_reserve, with_call, with_ask, with_advising}
 use Rattle.pdl_pipe_walk.proofs.Lists.{there_set}
 use Rattle.pdl_pipe_walk.proofs.NetGrowth.{there_walk}
-use Rattle.pdl_pipe_walk.proofs.Updates.{there_rest, vars_parts, ready_parts, marks_parts, reserve_parts, put_parts, letting_parts, ask_parts, birth_parts, fails_parts, barrier_parts, guess_parts, sized_var, sized_ready, sized_mark, sized_put, sized_reserve, sized_letting, sized_ask, sized_fails, sized_barrier, sized_guess, sized_call}
+use Rattle.pdl_pipe_walk.proofs.Updates.{there_rest, vars_parts, ready_parts, marks_parts, reserve_parts, put_parts, letting_parts, ask_parts, advising_parts, birth_parts, fails_parts, barrier_parts, guess_parts, sized_var, sized_ready, sized_mark, sized_put, sized_reserve, sized_letting, sized_ask, sized_advising, sized_fails, sized_barrier, sized_guess, sized_call}
 use Rattle.pdl_word.specs.Each.{Each}
 use Rattle.pdl_word.proofs.Each.{each_push}
 
@@ -75,6 +77,7 @@ module _ (a b : Circuit) (e : Extends a b) (p : Pipe) (ws : List ℕ) (w : WalkN
             lettings = there.lettings;
             births = there.births;
             asks = there.asks;
+            advises = there.advises;
             guess = there.guess;
             fails = there.fails;
             barrier = there.barrier;
@@ -99,6 +102,7 @@ module _ (a b : Circuit) (e : Extends a b) (p : Pipe) (ws : List ℕ) (w : WalkN
             lettings = there.lettings;
             births = there.births;
             asks = there.asks;
+            advises = there.advises;
             guess = there.guess;
             fails = t;
             barrier = there.barrier;
@@ -121,6 +125,7 @@ module _ (a b : Circuit) (e : Extends a b) (p : Pipe) (ws : List ℕ) (w : WalkN
             lettings = there.lettings;
             births = there.births;
             asks = there.asks;
+            advises = there.advises;
             guess = there.guess;
             fails = there.fails;
             barrier = t;
@@ -144,6 +149,7 @@ module _ (a b : Circuit) (e : Extends a b) (p : Pipe) (ws : List ℕ) (w : WalkN
           lettings = there.lettings;
           births = there.births;
           asks = there.asks;
+          advises = there.advises;
           guess = t;
           fails = there.fails;
           barrier = there.barrier;
@@ -192,6 +198,7 @@ module _ (b : Circuit) (p : Pipe) (ws : List ℕ) (w : WalkNets) (h : IsWalk b p
           lettings = s.lettings;
           births = s.births;
           asks = s.asks;
+          advises = s.advises;
           guess = s.guess;
           fails = s.fails;
           barrier = s.barrier;
@@ -217,6 +224,7 @@ module _ (b : Circuit) (p : Pipe) (ws : List ℕ) (w : WalkNets) (h : IsWalk b p
           lettings = s.lettings;
           births = s.births;
           asks = s.asks;
+          advises = s.advises;
           guess = s.guess;
           fails = s.fails;
           barrier = s.barrier;
@@ -241,6 +249,7 @@ module _ (b : Circuit) (p : Pipe) (ws : List ℕ) (w : WalkNets) (h : IsWalk b p
           puts = s.puts;
           births = s.births;
           asks = s.asks;
+          advises = s.advises;
           guess = s.guess;
           fails = s.fails;
           barrier = s.barrier;
@@ -269,6 +278,7 @@ module _ (b : Circuit) (p : Pipe) (ws : List ℕ) (w : WalkNets) (h : IsWalk b p
           guess = s.guess;
           fails = s.fails;
           barrier = s.barrier;
+          advises = s.advises;
           asks = each_push (λ (y : AskNet). IsThere b y.on × IsThere b y.addr) w.asks n s.asks (t, u);
         };
     sized =
@@ -276,6 +286,34 @@ module _ (b : Circuit) (p : Pipe) (ws : List ℕ) (w : WalkNets) (h : IsWalk b p
         (record (parts_in b w) { asks = (parts_in b w).asks ++ ask_in b n ∷ [] }) (ask_parts b w n)
         (sized_ask p ws (parts_in b w) h.sized m x (signal b on) (signal b addr) l o k);
   }
+
+  -- the nets of the walk with one more advisory write are there, with their widths
+  pub advising_walk : (m : ℕ) (on addr value : Net) → IsThere b on → IsThere b addr → IsThere b value → m < length p.mems → IsUnlocked p m
+      → (signal b on).width ≡ 1 → 2 ^ (signal b addr).width ≡ (mem_at p m).depth → (signal b value).width ≡ (mem_at p m).width
+      → IsWalk b p ws (record w { advises = w.advises ++ record { mem = m; on = on; addr = addr; value = value } ∷ [] })
+  advising_walk m on addr value t u v l free o k j =
+      let n : AdvisingNet = record { mem = m; on = on; addr = addr; value = value } in
+      let s = h.there in record {
+        there =
+            record {
+              vars = s.vars;
+              marks = s.marks;
+              ready = s.ready;
+              reserves = s.reserves;
+              puts = s.puts;
+              lettings = s.lettings;
+              births = s.births;
+              asks = s.asks;
+              guess = s.guess;
+              fails = s.fails;
+              barrier = s.barrier;
+              advises = each_push (λ (y : AdvisingNet). IsThere b y.on × IsThere b y.addr × IsThere b y.value) w.advises n s.advises (t, u, v);
+            };
+        sized =
+            as_sized p ws (parts_in b (record w { advises = w.advises ++ n ∷ [] }))
+            (record (parts_in b w) { advises = (parts_in b w).advises ++ advising_in b n ∷ [] }) (advising_parts b w n)
+            (sized_advising p ws (parts_in b w) h.sized (advising_in b n) (record { low = l; unlocked = free; on = o; reach = k; value = j }));
+      }
 
 -- ---- what equal parts make of equal changes
 
@@ -353,3 +391,9 @@ pub ask_made : (m x a : ℕ) (q q' : Parts) (o o' f : Signal)
 ask_made m x a q q' o o' f e g k =
     ap (λ (r : Parts). record r { asks = r.asks ++ record { mem = m; var = x; on = o; addr = f } ∷ [] }) e
     ∙ ap₂ (λ i j. record q' { asks = q'.asks ++ record { mem = m; var = x; on = i; addr = j } ∷ [] }) g k
+
+-- one more advisory write with the address of a location makes a write of an advisory memory
+pub advising_made : (m a : ℕ) (q q' : Parts) (o o' f v v' : Signal)
+    → q ≡ q' → o ≡ o' → f ≡ signal_at q'.vars a → v ≡ v'
+    → record q { advises = q.advises ++ record { mem = m; on = o; addr = f; value = v } ∷ [] } ≡ with_advising m a o' v' q'
+advising_made m a q q' o o' f v v' e g k l = rw (e, g, k, l) refl

@@ -27,7 +27,7 @@ use Rattle.pdl_pipe_walk.specs.declared.nets.WalkNets.{WalkNets}
 use Rattle.pdl_pipe_walk.specs.Parts.{Parts, mark_of, walk_of, parts_in}
 use Rattle.pdl_pipe_walk.specs.Sized.{IsSized, IsWalk}
 use Rattle.pdl_pipe_walk.specs.Words.{IsWordSignal, IsRead, IsBlocked}
-use Rattle.pdl_pipe_walk.specs.Steps.{Later, IsStep, with_var, with_put, with_mark, with_wait, with_second, with_reservation, with_reserve, with_release, with_call}
+use Rattle.pdl_pipe_walk.specs.Steps.{Later, IsStep, with_var, with_put, with_mark, with_wait, with_second, with_reservation, with_reserve, with_release, with_call, with_advising}
 use Rattle.pdl_pipe_walk.proofs.Lists.{signal_set}
 use Rattle.pdl_pipe_walk.proofs.NetGrowth.{var_width, var_count}
 use Rattle.pdl_pipe_walk.proofs.Conditions.{nets_bounded, taken_value}
@@ -136,11 +136,30 @@ module _ (c : Circuit) (p : Pipe) (ws : List ℕ) (ls : Locks) (tickets : ℕ �
             ∙ ap (λ v. record (walk_of w) { vars = v }) (set_walk x (mux_signal on f (signal_at w.vars x)) w (omega (arith, l, var_count p ws w sized)));
       }
 
+  -- and so does one of an advised variable
+  pub advice_bind_step : (x : ℕ) (e : Expr) (w' : Parts) → x < length ws → IsTyped ws e
+      → w' ≡ with_var x (taken_signal w.vars gs) (value_signal w.vars e) w
+      → IsStep c p ls tickets gs (flat.AdviceBind x e) (walk_of w) (walk_of w')
+  advice_bind_step x e w' l t h = let s = bind_step x e w' l t h in record { row = s.row; on = s.on; does = s.does; next = s.next }
+
   -- a write adds a write with the value of the expression
   pub write_step : (m a : ℕ) (e : Expr) (w' : Parts) → IsTyped ws e
       → w' ≡ with_put m a (taken_signal w.vars gs) (value_signal w.vars e) w
       → IsStep c p ls tickets gs (flat.Write m a e) (walk_of w) (walk_of w')
   write_step m a e w' t h =
+      let typed = subst (λ l. IsTyped l e) (sym sized.vars) t in
+      record {
+        row = record { on = taken_signal w.vars gs; value = value_signal w.vars e; args = []; guess = [] };
+        on = is_on;
+        does = λ d k well s suits u env agree. has_value s w.vars (walk_of w) (λ y. refl) (bounded_in d k well s suits) e typed env agree;
+        next = ap walk_of h;
+      }
+
+  -- an advisory write adds one, with the address of its location and the value of the expression
+  pub advice_write_step : (m a : ℕ) (e : Expr) (w' : Parts) → IsTyped ws e
+      → w' ≡ with_advising m a (taken_signal w.vars gs) (value_signal w.vars e) w
+      → IsStep c p ls tickets gs (flat.AdviceWrite m a e) (walk_of w) (walk_of w')
+  advice_write_step m a e w' t h =
       let typed = subst (λ l. IsTyped l e) (sym sized.vars) t in
       record {
         row = record { on = taken_signal w.vars gs; value = value_signal w.vars e; args = []; guess = [] };
@@ -248,3 +267,9 @@ module _ (c : Circuit) (p : Pipe) (ws : List ℕ) (ls : Locks) (tickets : ℕ �
         );
         next = ap walk_of h.next ∙ ap (λ v. record (walk_of w) { vars = v }) (set_walk x (mux_signal on f old) w (omega (arith, l, var_count p ws w sized)));
       }
+
+  -- and so does one of an advisory memory
+  pub advice_read_step : (x m a : ℕ) (w' : Parts) → ls.array m ≡ comb_place p m → x < length ws → IsLocation p ws m a
+      → IsRead p ls tickets (taken_signal w.vars gs) x m a w w'
+      → IsStep c p ls tickets gs (flat.AdviceRead x m a) (walk_of w) (walk_of w')
+  advice_read_step x m a w' array l at h = let s = read_step x m a w' array l at h in record { row = s.row; on = s.on; does = s.does; next = s.next }

@@ -19,8 +19,9 @@ use Rattle.pdl_pipe_walk.specs.declared.nets.PutNet.{PutNet}
 use Rattle.pdl_pipe_walk.specs.declared.nets.LettingNet.{LettingNet}
 use Rattle.pdl_pipe_walk.specs.declared.nets.BirthNet.{BirthNet}
 use Rattle.pdl_pipe_walk.specs.declared.nets.AskNet.{AskNet}
+use Rattle.pdl_pipe_walk.specs.declared.nets.AdvisingNet.{AdvisingNet}
 use Rattle.pdl_pipe_walk.specs.declared.nets.WalkNets.{WalkNets}
-use Rattle.pdl_pipe_walk.specs.Parts.{MarkSignal, Parts, mark_of, mark_in, reservation_in, put_in, letting_in, birth_in, ask_in, parts_in, IsThereWalk}
+use Rattle.pdl_pipe_walk.specs.Parts.{MarkSignal, Parts, mark_of, mark_in, reservation_in, put_in, letting_in, birth_in, ask_in, advising_in, parts_in, IsThereWalk}
 use Rattle.pdl_pipe_walk.specs.MarkLookups.{mark_net}
 use Rattle.pdl_pipe_walk.specs.Sized.{IsSized, IsWalk}
 use Rattle.pdl_pipe_walk.proofs.Lists.{map_each}
@@ -65,6 +66,13 @@ module _ (a b : Circuit) (e : Keeps a b) where
       map_each (ask_in b) (ask_in a) (λ x. IsThere a x.on × IsThere a x.addr)
       (λ x k. ap₂ (λ f g. record { mem = x.mem; var = x.var; on = f; addr = g }) (e.kept x.on k.0) (e.kept x.addr k.1)) xs t
 
+  advises_keep : (xs : List AdvisingNet) → Each (λ (x : AdvisingNet). IsThere a x.on × IsThere a x.addr × IsThere a x.value) xs
+      → map (advising_in b) xs ≡ map (advising_in a) xs
+  advises_keep xs t =
+      map_each (advising_in b) (advising_in a) (λ x. IsThere a x.on × IsThere a x.addr × IsThere a x.value)
+      (λ x k. ap (λ f. record { mem = x.mem; on = f; addr = signal b x.addr; value = signal b x.value }) (e.kept x.on k.0)
+      ∙ ap₂ (λ f g. record { mem = x.mem; on = signal a x.on; addr = f; value = g }) (e.kept x.addr k.1) (e.kept x.value k.2)) xs t
+
   -- all nets of a walk mean what they meant
   pub parts_keep : (w : WalkNets) → IsThereWalk a w → parts_in b w ≡ parts_in a w
   parts_keep w t =
@@ -77,6 +85,7 @@ module _ (a b : Circuit) (e : Keeps a b) where
         lettings_keep w.lettings t.lettings,
         births_keep w.births.items t.births,
         asks_keep w.asks t.asks,
+        advises_keep w.advises t.advises,
         signals_keep a b w.guess e t.guess,
         e.kept w.fails t.fails,
         e.kept w.barrier t.barrier,
@@ -101,6 +110,9 @@ module _ (a b : Circuit) (e : Keeps a b) where
     asks =
         each_weaker (λ (x : AskNet). IsThere a x.on × IsThere a x.addr) (λ x. IsThere b x.on × IsThere b x.addr)
         (λ x k. (e.there x.on k.0, e.there x.addr k.1)) w.asks t.asks;
+    advises =
+        each_weaker (λ (x : AdvisingNet). IsThere a x.on × IsThere a x.addr × IsThere a x.value) (λ x. IsThere b x.on × IsThere b x.addr × IsThere b x.value)
+        (λ x k. (e.there x.on k.0, e.there x.addr k.1, e.there x.value k.2)) w.advises t.advises;
     guess = there_keeps a b w.guess e t.guess;
     fails = e.there w.fails t.fails;
     barrier = e.there w.barrier t.barrier;

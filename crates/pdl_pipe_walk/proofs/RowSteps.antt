@@ -1,5 +1,5 @@
 -- Rows one after another, while the circuit grows.
-use Rattle.std.proofs.Common.{arith, ◌≡◌, refl, ℕ, ◌+◌, ◌<◌, Bool, true, false, List, [], ◌∷◌, ◌++◌, map, length, take, drop, get_or, sym, ap, ◌∙◌, subst}
+use Rattle.std.proofs.Common.{arith, ◌≡◌, ℕ, ◌+◌, ◌<◌, List, [], ◌∷◌, ◌++◌, map, length, take, drop, get_or, sym, ap, ◌∙◌, subst}
 use Rattle.std.proofs.lemmas.List.{drop_more, take_more, map-append, get_or-map, length-map}
 use Rattle.std.specs.Prelude.{slice_index}
 use Rattle.pdl_semantics.specs.Flat.{Guard, Op, SpecCheck, Stmt, Pipe}

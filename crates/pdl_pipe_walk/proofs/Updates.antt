@@ -11,17 +11,18 @@ use Rattle.pdl_net.specs.Meaning.{signal, IsThere}
 use Rattle.pdl_net.specs.Growth.{Keeps}
 use Rattle.pdl_pipe_exprs.specs.Nets.{NetsThere, signals_in, signal_at, widths_of}
 use Rattle.pdl_law_parts.specs.declared.Mark.{Mark}
-use Rattle.pdl_law_parts.specs.Walk.{Birth, Letting, both, if_on}
+use Rattle.pdl_law_parts.specs.Walk.{Birth, Letting, Advising, both, if_on}
 use Rattle.pdl_pipe_walk.specs.declared.nets.MarkNet.{MarkNet}
 use Rattle.pdl_pipe_walk.specs.declared.nets.ReserveNet.{ReserveNet}
 use Rattle.pdl_pipe_walk.specs.declared.nets.PutNet.{PutNet}
 use Rattle.pdl_pipe_walk.specs.declared.nets.LettingNet.{LettingNet}
 use Rattle.pdl_pipe_walk.specs.declared.nets.BirthNet.{BirthNet}
 use Rattle.pdl_pipe_walk.specs.declared.nets.AskNet.{AskNet}
+use Rattle.pdl_pipe_walk.specs.declared.nets.AdvisingNet.{AdvisingNet}
 use Rattle.pdl_pipe_walk.specs.declared.nets.WalkNets.{WalkNets}
-use Rattle.pdl_pipe_walk.specs.Parts.{MarkSignal, Parts, mark_in, reservation_in, put_in, letting_in, birth_in, ask_in, parts_in, IsThereWalk}
+use Rattle.pdl_pipe_walk.specs.Parts.{MarkSignal, Parts, mark_in, reservation_in, put_in, letting_in, birth_in, ask_in, advising_in, parts_in, IsThereWalk}
 use Rattle.pdl_pipe_walk.specs.Frames.{SameRest}
-use Rattle.pdl_pipe_walk.specs.Sized.{IsSized, IsSizedReserve, IsSizedPut, IsSizedAsk}
+use Rattle.pdl_pipe_walk.specs.Sized.{IsSized, IsSizedReserve, IsSizedPut, IsSizedAsk, IsSizedAdvising}
 use Rattle.pdl_pipe_walk.specs.Steps.{with_var, with_put, with_mark, with_call}
 use Rattle.pdl_pipe_walk.proofs.Lists.{widths_set}
 use Rattle.pdl_pipe_walk.proofs.NetGrowth.{parts_keep, var_width}
@@ -45,6 +46,7 @@ same_rest b w new vars marks births e1 e2 e3 r =
       ap (map (put_in b)) r.puts,
       ap (map (letting_in b)) r.lettings,
       ap (map (ask_in b)) r.asks,
+      ap (map (advising_in b)) r.advises,
       ap (signals_in b) r.guess,
       ap (signal b) r.fails,
       ap (signal b) r.barrier,
@@ -63,6 +65,8 @@ there_rest b w new t r vars marks births = record {
   lettings = subst (λ (l : List LettingNet). Each (λ (y : LettingNet). IsThere b y.on) l) (sym r.lettings) t.lettings;
   births = births;
   asks = subst (λ (l : List AskNet). Each (λ (y : AskNet). IsThere b y.on × IsThere b y.addr) l) (sym r.asks) t.asks;
+  advises =
+      subst (λ (l : List AdvisingNet). Each (λ (y : AdvisingNet). IsThere b y.on × IsThere b y.addr × IsThere b y.value) l) (sym r.advises) t.advises;
   guess = subst (λ (l : List Net). NetsThere b l) (sym r.guess) t.guess;
   fails = subst (IsThere b) (sym r.fails) t.fails;
   barrier = subst (IsThere b) (sym r.barrier) t.barrier;
@@ -131,6 +135,11 @@ module _ (b : Circuit) (w : WalkNets) where
   pub ask_parts : (n : AskNet) → parts_in b (record w { asks = w.asks ++ n ∷ [] }) ≡ record (parts_in b w) { asks = (parts_in b w).asks ++ ask_in b n ∷ [] }
   ask_parts n = ap (λ l. record (parts_in b w) { asks = l }) (map-append (ask_in b) w.asks (n ∷ []))
 
+  -- with one advisory write more, it comes after the advisory writes and nothing else changes
+  pub advising_parts : (n : AdvisingNet)
+      → parts_in b (record w { advises = w.advises ++ n ∷ [] }) ≡ record (parts_in b w) { advises = (parts_in b w).advises ++ advising_in b n ∷ [] }
+  advising_parts n = ap (λ l. record (parts_in b w) { advises = l }) (map-append (advising_in b) w.advises (n ∷ []))
+
   -- with one call more, it comes in front of the calls and nothing else changes
   pub birth_parts : (new : WalkNets) (n : BirthNet) → new.births.items ≡ n ∷ w.births.items → new.vars ≡ w.vars → new.marks ≡ w.marks → SameRest w new
       → parts_in b new ≡ record (parts_in b w) { births = birth_in b n ∷ (parts_in b w).births }
@@ -152,6 +161,7 @@ module _ (p : Pipe) (ws : List ℕ) (w : Parts) (s : IsSized p ws w) where
     lettings = s.lettings;
     births = s.births;
     asks = s.asks;
+    advises = s.advises;
     guess = s.guess;
     fails = s.fails;
     barrier = s.barrier;
@@ -169,6 +179,7 @@ module _ (p : Pipe) (ws : List ℕ) (w : Parts) (s : IsSized p ws w) where
         lettings = s.lettings;
         births = s.births;
         asks = s.asks;
+        advises = s.advises;
         guess = s.guess;
         fails = s.fails;
         barrier = s.barrier;
@@ -186,6 +197,7 @@ module _ (p : Pipe) (ws : List ℕ) (w : Parts) (s : IsSized p ws w) where
         lettings = s.lettings;
         births = s.births;
         asks = s.asks;
+        advises = s.advises;
         guess = s.guess;
         fails = s.fails;
         barrier = s.barrier;
@@ -201,6 +213,7 @@ module _ (p : Pipe) (ws : List ℕ) (w : Parts) (s : IsSized p ws w) where
     lettings = s.lettings;
     births = s.births;
     asks = s.asks;
+    advises = s.advises;
     guess = s.guess;
     fails = s.fails;
     barrier = s.barrier;
@@ -218,6 +231,7 @@ module _ (p : Pipe) (ws : List ℕ) (w : Parts) (s : IsSized p ws w) where
     lettings = s.lettings;
     births = s.births;
     asks = s.asks;
+    advises = s.advises;
     guess = s.guess;
     fails = s.fails;
     barrier = s.barrier;
@@ -234,6 +248,7 @@ module _ (p : Pipe) (ws : List ℕ) (w : Parts) (s : IsSized p ws w) where
     puts = s.puts;
     births = s.births;
     asks = s.asks;
+    advises = s.advises;
     guess = s.guess;
     fails = s.fails;
     barrier = s.barrier;
@@ -254,7 +269,25 @@ module _ (p : Pipe) (ws : List ℕ) (w : Parts) (s : IsSized p ws w) where
     guess = s.guess;
     fails = s.fails;
     barrier = s.barrier;
+    advises = s.advises;
     asks = each_push (IsSizedAsk p) w.asks (record { mem = m; var = x; on = on; addr = f }) s.asks (l, o, e);
+  }
+
+  -- the widths stay as they should with one advisory write more, that has them
+  pub sized_advising : (x : Advising) → IsSizedAdvising p x → IsSized p ws (record w { advises = w.advises ++ x ∷ [] })
+  sized_advising x h = record {
+    vars = s.vars;
+    marks = s.marks;
+    ready = s.ready;
+    reserves = s.reserves;
+    puts = s.puts;
+    lettings = s.lettings;
+    births = s.births;
+    asks = s.asks;
+    guess = s.guess;
+    fails = s.fails;
+    barrier = s.barrier;
+    advises = each_push (IsSizedAdvising p) w.advises x s.advises h;
   }
 
   -- the widths stay as they should with another bit of whether a verify fails
@@ -269,6 +302,7 @@ module _ (p : Pipe) (ws : List ℕ) (w : Parts) (s : IsSized p ws w) where
         lettings = s.lettings;
         births = s.births;
         asks = s.asks;
+        advises = s.advises;
         guess = s.guess;
         fails = e;
         barrier = s.barrier;
@@ -286,6 +320,7 @@ module _ (p : Pipe) (ws : List ℕ) (w : Parts) (s : IsSized p ws w) where
         lettings = s.lettings;
         births = s.births;
         asks = s.asks;
+        advises = s.advises;
         guess = s.guess;
         fails = s.fails;
         barrier = e;
@@ -303,6 +338,7 @@ module _ (p : Pipe) (ws : List ℕ) (w : Parts) (s : IsSized p ws w) where
         lettings = s.lettings;
         births = s.births;
         asks = s.asks;
+        advises = s.advises;
         guess = e;
         fails = s.fails;
         barrier = s.barrier;
@@ -320,6 +356,7 @@ module _ (p : Pipe) (ws : List ℕ) (w : Parts) (s : IsSized p ws w) where
         lettings = s.lettings;
         births = ((o, k), s.births);
         asks = s.asks;
+        advises = s.advises;
         guess = s.guess;
         fails = s.fails;
         barrier = s.barrier;

@@ -9,6 +9,7 @@ pub record SameRest (v w : WalkNets) : Type 0 where
   pub puts : w.puts ≡ v.puts
   pub lettings : w.lettings ≡ v.lettings
   pub asks : w.asks ≡ v.asks
+  pub advises : w.advises ≡ v.advises
   pub guess : w.guess ≡ v.guess
   pub fails : w.fails ≡ v.fails
   pub barrier : w.barrier ≡ v.barrier

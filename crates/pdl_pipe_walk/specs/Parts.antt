@@ -10,13 +10,14 @@ use Rattle.pdl_pipe_exprs.specs.Nets.{NetsThere, signals_in, signal_at}
 use Rattle.pdl_pipe_exprs.specs.Conditions.{taken_signal}
 use Rattle.pdl_pipe_exprs.specs.Values.{value_signal, value_signals}
 use Rattle.pdl_law_parts.specs.declared.Mark.{Mark}
-use Rattle.pdl_law_parts.specs.Walk.{Reservation, Put, Letting, Birth, Ask, Walk, zero_bit, same_mark}
+use Rattle.pdl_law_parts.specs.Walk.{Reservation, Put, Letting, Birth, Ask, Advising, Walk, zero_bit, same_mark}
 use Rattle.pdl_pipe_walk.specs.declared.nets.MarkNet.{MarkNet}
 use Rattle.pdl_pipe_walk.specs.declared.nets.ReserveNet.{ReserveNet}
 use Rattle.pdl_pipe_walk.specs.declared.nets.PutNet.{PutNet}
 use Rattle.pdl_pipe_walk.specs.declared.nets.LettingNet.{LettingNet}
 use Rattle.pdl_pipe_walk.specs.declared.nets.BirthNet.{BirthNet}
 use Rattle.pdl_pipe_walk.specs.declared.nets.AskNet.{AskNet}
+use Rattle.pdl_pipe_walk.specs.declared.nets.AdvisingNet.{AdvisingNet}
 use Rattle.pdl_pipe_walk.specs.declared.nets.WalkNets.{WalkNets}
 use Rattle.pdl_word.specs.Each.{Each}
 
@@ -37,6 +38,7 @@ pub record Parts : Type 0 where
   pub lettings : List Letting
   pub births : List Birth
   pub asks : List Ask
+  pub advises : List Advising
   pub guess : List Signal
   pub fails : Signal
   pub barrier : Signal
@@ -58,6 +60,7 @@ walk_of w =
       lettings = w.lettings;
       births = w.births;
       asks = w.asks;
+      advises = w.advises;
       guess = w.guess;
       fails = w.fails;
       barrier = w.barrier;
@@ -89,6 +92,10 @@ birth_in c x = record { on = signal c x.on; args = signals_in c x.args }
 abbrev pub ask_in : Circuit → AskNet → Ask
 ask_in c x = record { mem = x.mem; var = x.var; on = signal c x.on; addr = signal c x.addr }
 
+-- a write of an advisory memory by its nets in a circuit
+abbrev pub advising_in : Circuit → AdvisingNet → Advising
+advising_in c x = record { mem = x.mem; on = signal c x.on; addr = signal c x.addr; value = signal c x.value }
+
 -- all parts of a walk by their nets in a circuit
 abbrev pub parts_in : Circuit → WalkNets → Parts
 parts_in c w =
@@ -101,6 +108,7 @@ parts_in c w =
       lettings = map (letting_in c) w.lettings;
       births = map (birth_in c) w.births.items;
       asks = map (ask_in c) w.asks;
+      advises = map (advising_in c) w.advises;
       guess = signals_in c w.guess;
       fails = signal c w.fails;
       barrier = signal c w.barrier;
@@ -132,6 +140,7 @@ pub record IsThereWalk (c : Circuit) (w : WalkNets) : Type 0 where
   pub lettings : Each (λ (x : LettingNet). IsThere c x.on) w.lettings
   pub births : Each (λ (x : BirthNet). IsThere c x.on × NetsThere c x.args) w.births.items
   pub asks : Each (λ (x : AskNet). IsThere c x.on × IsThere c x.addr) w.asks
+  pub advises : Each (λ (x : AdvisingNet). IsThere c x.on × IsThere c x.addr × IsThere c x.value) w.advises
   pub guess : NetsThere c w.guess
   pub fails : IsThere c w.fails
   pub barrier : IsThere c w.barrier

@@ -6,8 +6,8 @@ use Rattle.pdl_form.specs.Form.{Form, stmt_at}
 use Rattle.pdl_form_types.specs.Stmts.{IsTypedStmt}
 use Rattle.pdl_net.specs.Circuit.{Circuit}
 use Rattle.pdl_pipe_exprs.specs.Nets.{widths_of}
-use Rattle.pdl_law_parts.specs.Walk.{Reservation, Put, Letting, Birth, Ask}
-use Rattle.pdl_law_parts.specs.Rows.{HasRow}
+use Rattle.pdl_law_parts.specs.Walk.{Reservation, Put, Letting, Birth, Ask, Advising}
+use Rattle.pdl_law_parts.specs.Rows.{HasRow, IsUnlocked}
 use Rattle.pdl_pipe_walk.specs.declared.nets.WalkNets.{WalkNets}
 use Rattle.pdl_pipe_walk.specs.Parts.{MarkSignal, Parts, parts_in, IsThereWalk}
 use Rattle.pdl_word.specs.Each.{Each}
@@ -28,6 +28,14 @@ IsSizedBirth p ws x = (x.on.width ≡ 1) × (widths_of x.args ≡ take (length p
 abbrev pub IsSizedAsk : Pipe → Ask → Type 0
 IsSizedAsk p x = (x.mem < length p.mems) × (x.on.width ≡ 1) × (2 ^ x.addr.width ≡ (mem_at p x.mem).depth)
 
+-- an advisory write's condition has 1 bit, its memory answers at once and has no lock, its address reaches each word of this and no more, and its value has the width of the words
+pub record IsSizedAdvising (p : Pipe) (x : Advising) : Type 0 where
+  pub low : x.mem < length p.mems
+  pub unlocked : IsUnlocked p x.mem
+  pub on : x.on.width ≡ 1
+  pub reach : 2 ^ x.addr.width ≡ (mem_at p x.mem).depth
+  pub value : x.value.width ≡ (mem_at p x.mem).width
+
 -- the variables have these widths
 pub record IsSized (p : Pipe) (ws : List ℕ) (w : Parts) : Type 0 where
   pub vars : widths_of w.vars ≡ ws
@@ -38,6 +46,7 @@ pub record IsSized (p : Pipe) (ws : List ℕ) (w : Parts) : Type 0 where
   pub lettings : Each (λ (x : Letting). x.on.width ≡ 1) w.lettings
   pub births : Each (IsSizedBirth p ws) w.births
   pub asks : Each (IsSizedAsk p) w.asks
+  pub advises : Each (IsSizedAdvising p) w.advises
   pub guess : widths_of w.guess ≡ take (length p.start) ws
   pub fails : w.fails.width ≡ 1
   pub barrier : w.barrier.width ≡ 1

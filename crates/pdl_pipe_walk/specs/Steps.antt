@@ -70,6 +70,10 @@ with_call on args w = record w { births = record { on = on; args = args } ∷ w.
 abbrev pub with_ask : ℕ → ℕ → ℕ → Signal → Parts → Parts
 with_ask m x a on w = record w { asks = w.asks ++ record { mem = m; var = x; on = on; addr = signal_at w.vars a } ∷ [] }
 
+-- a value is written to a location of an advisory memory
+abbrev pub with_advising : ℕ → ℕ → Signal → Signal → Parts → Parts
+with_advising m a on f w = record w { advises = w.advises ++ record { mem = m; on = on; addr = signal_at w.vars a; value = f } ∷ [] }
+
 -- a call whose arguments are kept as the guess
 abbrev pub with_guess : Signal → List Signal → Parts → Parts
 with_guess on args w = record (with_call on args w) { guess = choices on args w.guess }

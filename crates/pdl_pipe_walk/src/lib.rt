@@ -13,4 +13,4 @@ pub mod update;
 pub mod vars;
 
 pub use locks::{MemLock, Setting};
-pub use nets::{AskNet, BirthNet, LettingNet, MarkNet, PutNet, ReserveNet, WalkNets};
+pub use nets::{AdvisingNet, AskNet, BirthNet, LettingNet, MarkNet, PutNet, ReserveNet, WalkNets};

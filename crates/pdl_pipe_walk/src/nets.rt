@@ -46,6 +46,15 @@ pub struct AskNet {
     pub addr: Net,
 }
 
+/// A write of an advisory memory: whether it is made, 1 bit, its address and its value.
+#[derive(Clone, Copy)]
+pub struct AdvisingNet {
+    pub mem: usize,
+    pub on: Net,
+    pub addr: Net,
+    pub value: Net,
+}
+
 /// A call: whether it is made, 1 bit, and its arguments.
 #[derive(Drop)]
 pub struct BirthNet {
@@ -65,6 +74,7 @@ pub struct WalkNets {
     /// The latest first.
     pub births: Vec<BirthNet>,
     pub asks: Seq<AskNet>,
+    pub advises: Seq<AdvisingNet>,
     /// The arguments of the guess.
     pub guess: Seq<Net>,
     /// Whether a verify fails or an update changes the guess, 1 bit.
@@ -85,6 +95,7 @@ impl Drop for WalkNets {
             lettings: _,
             births: _,
             asks: _,
+            advises: _,
             guess: _,
             fails: _,
             barrier: _,

@@ -14,15 +14,16 @@ ghost use Rattle.pdl_form_types.specs.Stmts.{AreGuards, IsLocation, AreArguments
 ghost use Rattle.pdl_form_types.specs.Exprs.{width_in, IsTyped};
 ghost use Rattle.pdl_law_parts.specs.declared.Mark.TheVariants.{Held};
 ghost use Rattle.pdl_law_parts.specs.Walk.{is_locked, one, both};
+ghost use Rattle.pdl_law_parts.specs.Rows.{IsUnlocked};
 ghost use Rattle.pdl_pipe_walk.specs.Parts.{mark_of, parts_in, walk_in, taken_by, value_by, values_by};
 ghost use Rattle.pdl_pipe_walk.specs.Locked.{members};
 ghost use Rattle.pdl_pipe_walk.specs.Setting.{HasLocks, HasTickets, HasTwice, set_locks, set_tickets, AreSetSteps};
 ghost use Rattle.pdl_pipe_walk.specs.Sized.{IsWalked, AreWalked, AreWalkedRows, IsWalkOf};
 ghost use Rattle.pdl_pipe_walk.specs.Words.{IsLooked, IsRead, IsBlocked};
-ghost use Rattle.pdl_pipe_walk.specs.Steps.{with_var, with_put, with_release, with_call, with_ask, IsStep};
+ghost use Rattle.pdl_pipe_walk.specs.Steps.{with_var, with_put, with_release, with_call, with_ask, with_advising, IsStep};
 
 use crate::locks::{Setting, look_held, word};
-use crate::nets::{AskNet, MarkNet, PutNet, WalkNets};
+use crate::nets::{AdvisingNet, AskNet, MarkNet, PutNet, WalkNets};
 use pdl_build::Builder;
 use pdl_form::{FlatExpr, FlatGuard, FlatPipe, FlatStmt, Op};
 use pdl_kit::NoMemory;
@@ -164,6 +165,42 @@ impl WalkNets {
             mem: m,
             var: a,
             on,
+            value,
+        })
+    }
+
+    /// A write of an advisory memory.
+    pub(crate) fn advise(
+        &mut self,
+        b: &mut Builder,
+        pipe: &FlatPipe,
+        bits: Bits,
+        guards: &[FlatGuard],
+        m: usize,
+        a: usize,
+        e: &FlatExpr,
+    ) -> Result<(), NoMemory>
+        requires walk { IsWalkOf (form pipe.now) b.old self.old }
+        requires bits { AreBits b.old bits }
+        requires guards { AreGuards (form pipe.now).widths (guards_view guards.now) }
+        requires at { IsLocation (form pipe.now).pipe (form pipe.now).widths m a }
+        requires unlocked { IsUnlocked (form pipe.now).pipe m }
+        requires typed { IsTyped (form pipe.now).widths (expr_view e.now) }
+        requires wide { width_in (form pipe.now).widths (expr_view e.now)
+            ≡ (mem_at (form pipe.now).pipe m).width }
+        ensures walk { OnOk result (IsWalkOf (form pipe.now) b.new self.new) }
+        ensures parts { OnOk result (parts_in b.new self.new
+            ≡ with_advising m a (taken_by b.old self.old guards.now)
+            (value_by b.old self.old e.now) (parts_in b.old self.old)) }
+        ensures extends { Extends b.old b.new }
+    {
+        let on = self.all_taken(b, pipe, bits, guards)?;
+        let addr = self.variable(b, pipe, a);
+        let value = self.value(b, pipe, e)?;
+        self.push_advising(AdvisingNet {
+            mem: m,
+            on,
+            addr,
             value,
         })
     }
@@ -322,10 +359,9 @@ impl WalkNets {
             }
             Op::SpecCheck => Ok(()),
             Op::SpecBarrier => self.spec_barrier(b, pipe, bits, guards),
-            // (no row stands for what is advised)
-            Op::AdviceBind { .. } => unreachable!(),
-            Op::AdviceRead { .. } => unreachable!(),
-            Op::AdviceWrite { .. } => unreachable!(),
+            Op::AdviceBind { x, e } => self.bind(b, pipe, bits, guards, *x, e),
+            Op::AdviceRead { x, m, a } => self.read(b, setting, guards, *x, *m, *a),
+            Op::AdviceWrite { m, a, e } => self.advise(b, pipe, bits, guards, *m, *a, e),
         }
     }
 

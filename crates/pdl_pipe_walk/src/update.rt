@@ -12,7 +12,9 @@ ghost use Rattle.pdl_pipe_walk.specs.Frames.{SameRest};
 ghost use Rattle.pdl_pipe_walk.specs.MarkLookups.{mark_net as net_in};
 ghost use Rattle.pdl_pipe_walk.specs.Steps.{with_var, with_mark};
 
-use crate::nets::{AskNet, BirthNet, LettingNet, MarkNet, PutNet, ReserveNet, WalkNets};
+use crate::nets::{
+    AdvisingNet, AskNet, BirthNet, LettingNet, MarkNet, PutNet, ReserveNet, WalkNets,
+};
 use pdl_build::Builder;
 use pdl_form::FlatPipe;
 use pdl_kit::{NoMemory, Seq};
@@ -172,6 +174,14 @@ impl WalkNets {
         ensures { OnOk result (self.new ≡ record self.old { asks = self.old.asks ++ ask ∷ [] }) }
     {
         self.asks.push(ask)
+    }
+
+    /// One more write of an advisory memory.
+    pub(crate) fn push_advising(&mut self, advising: AdvisingNet) -> Result<(), NoMemory>
+        ensures { OnOk result (self.new
+            ≡ record self.old { advises = self.old.advises ++ advising ∷ [] }) }
+    {
+        self.advises.push(advising)
     }
 
     /// One more release of a write reservation.

@@ -2,17 +2,25 @@
 use Rattle.std.specs.Prelude.{◌≡◌, ℕ, List, [], ◌∷◌, ◌++◌, Option, Some, None, refl}
 use Rattle.pdl_kit.specs.declared.rule.Rule.{Rule}
 use Rattle.pdl_kit.specs.declared.rule.Rule.TheVariants.{F4, F5, L1, P1}
-use Rattle.pdl_semantics.specs.Tree.{W}
-use Rattle.pdl_rules.specs.Refusal.{Refused}
-use Rattle.pdl_rules.proofs.Judged.{judged}
+use Rattle.pdl_semantics.specs.Tree.{W, Pipe}
+use Rattle.pdl_rules.specs.Places.{places}
+use Rattle.pdl_rules.specs.Refusal.{Refused, refusal, broken_line}
 use Rattle.pdl_rules.proofs.Texts.{literal, constant, variable, slice, plus, Line, separator, choice, bind, read, delayed_read, write, reserve, block, release, call, spec_call, update, verify, spec_check, param, comb, slow, advisory, queue, whole}
 
 -- a pipe with an advisory memory t, a locked memory m and a delayed one d, of 4 words of 8 bits, whose guess is the sum of its argument and of what is learnt in t; `guess` stands behind the read of t, and `last` behind the verify
-abbrev predicted : Line → List Line → List Line → Option Refused
-predicted checked guess last =
-    judged (whole (param "n" 8 ∷ []) (advisory 2 "t" 8 4 ∷ comb 2 "m" 8 4 (queue 1) ∷ slow 2 "d" 8 4 (queue 1) ∷ [])
+abbrev predicting : Line → List Line → List Line → Pipe
+predicting checked guess last =
+    whole (param "n" 8 ∷ []) (advisory 2 "t" 8 4 ∷ comb 2 "m" 8 4 (queue 1) ∷ slow 2 "d" 8 4 (queue 1) ∷ [])
     (spec_check ∷ bind "a" (slice "n" 1 0) ∷ read "g" "t" "a" ∷ guess ++ separator ∷ bind "u" (plus (variable "n") (constant 8 2)) ∷ separator ∷ checked ∷ last)
-    (literal 8 0 ∷ []))
+    (literal 8 0 ∷ [])
+
+-- what refuses it
+abbrev predicted : Line → List Line → List Line → Option Refused
+predicted checked guess last = refusal [] (predicting checked guess last)
+
+-- where it breaks the rule on advice, whatever else it breaks
+abbrev advice_broken : Pipe → Option ℕ
+advice_broken p = broken_line P1 p [] (places p)
 
 abbrev guess : Line
 guess = spec_call "s" (plus (variable "n") (variable "g") ∷ [])
@@ -61,6 +69,10 @@ advised_value = refl
 
 advised_place : predicted right (bind "b" (slice "g" 1 0) ∷ guess ∷ []) (reserve "m" "b" W ∷ block "m" "b" ∷ write "m" "b" (variable "n") ∷ release "m" "b" ∷ []) ≡ at_line 12
 advised_place = refl
+
+-- the address of a write is asked by itself, also where no reservation of it is there to be asked first
+advised_write : advice_broken (predicting right (bind "b" (slice "g" 1 0) ∷ guess ∷ []) (write "m" "b" (variable "n") ∷ [])) ≡ Some 12
+advised_write = refl
 
 advised_call : predicted (bind "w" (variable "g")) (call (variable "g" ∷ []) ∷ []) [] ≡ at_line 6
 advised_call = refl

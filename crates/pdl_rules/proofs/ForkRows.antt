@@ -3,14 +3,13 @@ use Rattle.std.specs.Prelude.{◌≡◌, ℕ, List, [], ◌∷◌, Option, Some,
 use Rattle.pdl_kit.specs.declared.rule.Rule.{Rule}
 use Rattle.pdl_kit.specs.declared.rule.Rule.TheVariants.{N3, F1, F2, F3, F4, L2, L8}
 use Rattle.pdl_semantics.specs.Tree.{ZeroExtend, R, W}
-use Rattle.pdl_rules.specs.Refusal.{Refused}
-use Rattle.pdl_rules.proofs.Judged.{judged}
+use Rattle.pdl_rules.specs.Refusal.{Refused, refusal}
 use Rattle.pdl_rules.proofs.Texts.{number, literal, constant, variable, slice, plus, Line, separator, choice, bind, read, delayed_read, write, reserve, block, release, call, spec_check, queue, param, comb, slow, whole}
 
 -- the refusal of a short source with this body, which begins on line 3; m is a comb memory with a lock, t one without, d and q are delayed, q with a lock
 abbrev of_body : List Line → Option Refused
 of_body body =
-    judged
+    refusal []
     (whole (param "n" 4 ∷ [])
     (comb 2 "m" 8 4 (queue 4) ∷ comb 2 "t" 8 4 None ∷ slow 2 "d" 8 4 None ∷ slow 2 "q" 8 4 (queue 4) ∷ []) body (literal 4 0 ∷ []))
 

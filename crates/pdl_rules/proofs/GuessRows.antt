@@ -3,13 +3,12 @@ use Rattle.std.specs.Prelude.{◌≡◌, ℕ, List, [], ◌∷◌, ◌++◌, Opt
 use Rattle.pdl_kit.specs.declared.rule.Rule.{Rule}
 use Rattle.pdl_kit.specs.declared.rule.Rule.TheVariants.{N1, N2, N3, S1, S2, S3, S4, S5, S6, S7}
 use Rattle.pdl_semantics.specs.Tree.{ZeroExtend, R, W}
-use Rattle.pdl_rules.specs.Refusal.{Refused}
-use Rattle.pdl_rules.proofs.Judged.{judged}
+use Rattle.pdl_rules.specs.Refusal.{Refused, refusal}
 use Rattle.pdl_rules.proofs.Texts.{number, constant, variable, slice, plus, Line, separator, choice, bind, write, reserve, block, release, call, spec_call, verify, update, spec_check, spec_barrier, pipe}
 
 -- the refusal of a short source with this body, which begins on line 3
 abbrev of_body : List Line → Option Refused
-of_body body = judged (pipe body)
+of_body body = refusal [] (pipe body)
 
 abbrev at_line : Rule → ℕ → Option Refused
 at_line r k = Some (record { rule = r; line = k })

@@ -3,9 +3,8 @@ mod Rows
 mod ForkRows
 mod GuessRows
 mod AdviceRows
-mod UnbuiltRows
+mod AcceptedRows
 pub mod FirstPlaces
-mod Judged
 pub mod Counts
 pub mod SingleWrites
 pub mod FirstReserves

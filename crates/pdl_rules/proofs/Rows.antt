@@ -7,13 +7,12 @@ use Rattle.pdl_semantics.specs.Tree.{ZeroExtend, SignExtend, Cat, Choose, R, W, 
 use Rattle.pdl_rules.specs.Places.{Parameter, Statement}
 use Rattle.pdl_rules.specs.Limits.{breaks_z2, breaks_z3, breaks_z5}
 use Rattle.pdl_rules.specs.Stages.{breaks_l8}
-use Rattle.pdl_rules.specs.Refusal.{Refused}
-use Rattle.pdl_rules.proofs.Judged.{judged}
+use Rattle.pdl_rules.specs.Refusal.{Refused, refusal}
 use Rattle.pdl_rules.proofs.Texts.{ident, number, literal, constant, variable, slice, plus, Line, separator, choice, bind, read, write, reserve, block, release, call, queue, param, comb, whole, pipe, from_line}
 
 -- the refusal of a short source
 abbrev of_pipe : Pipe → Option Refused
-of_pipe p = judged p
+of_pipe p = refusal [] p
 
 abbrev at_line : Rule → ℕ → Option Refused
 at_line r k = Some (record { rule = r; line = k })

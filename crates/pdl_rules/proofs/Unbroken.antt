@@ -1,13 +1,11 @@
--- A source that is not refused breaks no rule at any place, and has no form without circuit.
-use Rattle.std.proofs.Common.{◌≡◌, refl, ap, ◌∙◌, if◌then◌else◌, ◌||◌, ℕ, zero, suc, false, List, [], ◌∷◌, ◌++◌, get_or, Option, Some, None, subst}
+-- A source that is not refused breaks no rule at any place.
+use Rattle.std.proofs.Common.{◌≡◌, refl, ℕ, zero, suc, false, List, [], ◌∷◌, ◌++◌, get_or, Option, Some, None, subst}
 use Rattle.pdl_kit.specs.declared.rule.Rule.{Rule}
 use Rattle.pdl_kit.specs.declared.rule.Rule.TheVariants.{G1, Z2, Z3, Z4, Z5, Z6, Z7, N1, N2, N3, W1, W2, W3, W4, W5, W6, F1, F2, F3, F4, F5, L1, L2, L3, L4, L5, L6, L7, L8, S1, S2, S3, S4, S5, S6, S7, P1}
 use Rattle.pdl_semantics.specs.Tree.{Pipe}
 use Rattle.pdl_rules.specs.Places.{Place, places, line_of}
-use Rattle.pdl_rules.specs.Refusal.{breaks_rule, limits, after_limits, RuleTest, line_by, refused_at, Refused, first_by, first_broken, KeepsRules}
-use Rattle.pdl_rules.specs.Unbuilt.{lacks_circuit, IsBuilt}
+use Rattle.pdl_rules.specs.Refusal.{breaks_rule, limits, after_limits, broken_line, refused_at, Refused, first_broken, KeepsRules}
 use Rattle.pdl_rules.proofs.EachPlace.{Each, each_back}
-use Rattle.std.proofs.lemmas.Bool.{or_parts}
 use Rattle.pdl_word.proofs.Bools.{none_given}
 
 -- where there is no refusal, this rule has no line at which it is broken, and the others have no refusal
@@ -15,34 +13,33 @@ pub no_refusal : (r : Rule) (line : Option ℕ) (others : Option Refused) → re
 no_refusal r (Some line) others e = cc
 no_refusal r None others e = (refl, e)
 
--- a test of a rule that has no lowest place passes nowhere
-each_failing : (test : RuleTest) (r : Rule) (p : Pipe) (xs before : List Place)
-    → line_by test r p before xs ≡ None → Each (λ front x. test r p front x ≡ false) before xs
-each_failing test r p [] before e = tt
-each_failing test r p (x ∷ xs) before e =
-    let parts = none_given (test r p before x) (line_of x) (line_by test r p (before ++ x ∷ []) xs) e in
-    (parts.0, each_failing test r p xs (before ++ x ∷ []) parts.1)
+-- a rule that has no lowest place is broken nowhere
+each_unbroken : (r : Rule) (p : Pipe) (xs before : List Place)
+    → broken_line r p before xs ≡ None → Each (λ front x. breaks_rule r p front x ≡ false) before xs
+each_unbroken r p [] before e = tt
+each_unbroken r p (x ∷ xs) before e =
+    let parts = none_given (breaks_rule r p before x) (line_of x) (broken_line r p (before ++ x ∷ []) xs) e in
+    (parts.0, each_unbroken r p xs (before ++ x ∷ []) parts.1)
 
--- no place passes the test by the k-th of some rules, if it passes by none of them first; a number past their end stands for a rule that no tree breaks
-failing : (test : RuleTest) (p : Pipe) (rs : List Rule) (k : ℕ)
-    → ((before : List Place) (x : Place) → test G1 p before x ≡ false)
-    → first_by test rs p ≡ None → (before : List Place) (x : Place) (later : List Place) → places p ≡ before ++ x ∷ later
-    → test (get_or rs k G1) p before x ≡ false
-failing test p [] k none e before x later same = none before x
-failing test p (r ∷ rs) zero none e before x later same =
-    let all = each_failing test r p (places p) [] (no_refusal r (line_by test r p [] (places p)) (first_by test rs p) e).0 in
-    (each_back (λ front y. test r p front y ≡ false) before (x ∷ later) [] (subst (Each (λ front y. test r p front y ≡ false) []) same all)).0
-failing test p (r ∷ rs) (suc k) none e before x later same =
-    failing test p rs k none (no_refusal r (line_by test r p [] (places p)) (first_by test rs p) e).1 before x later same
+-- no place breaks the k-th of some rules, if none of them is broken first; a number past their end stands for a rule that no tree breaks
+unbroken_of : (p : Pipe) (rs : List Rule) (k : ℕ)
+    → first_broken rs p ≡ None → (before : List Place) (x : Place) (later : List Place) → places p ≡ before ++ x ∷ later
+    → breaks_rule (get_or rs k G1) p before x ≡ false
+unbroken_of p [] k e before x later same = refl
+unbroken_of p (r ∷ rs) zero e before x later same =
+    let none = each_unbroken r p (places p) [] (no_refusal r (broken_line r p [] (places p)) (first_broken rs p) e).0 in
+    (each_back (λ front y. breaks_rule r p front y ≡ false) before (x ∷ later) [] (subst (Each (λ front y. breaks_rule r p front y ≡ false) []) same none)).0
+unbroken_of p (r ∷ rs) (suc k) e before x later same =
+    unbroken_of p rs k (no_refusal r (broken_line r p [] (places p)) (first_broken rs p) e).1 before x later same
 
 -- no place breaks the k-th of the rules of the tree, where none of them is broken first
 unbroken : (p : Pipe) (k : ℕ)
-    → first_by breaks_rule (limits ++ after_limits) p ≡ None → (before : List Place) (x : Place) (later : List Place)
+    → first_broken (limits ++ after_limits) p ≡ None → (before : List Place) (x : Place) (later : List Place)
     → places p ≡ before ++ x ∷ later → breaks_rule (get_or (limits ++ after_limits) k G1) p before x ≡ false
-unbroken p k e = failing breaks_rule p (limits ++ after_limits) k (λ before x. refl) e
+unbroken p k e = unbroken_of p (limits ++ after_limits) k e
 
 -- a pipe of which no rule of the tree is broken first breaks no rule at any place
-pub keeps_unbroken : (p : Pipe) → first_by breaks_rule (limits ++ after_limits) p ≡ None → KeepsRules p
+pub keeps_unbroken : (p : Pipe) → first_broken (limits ++ after_limits) p ≡ None → KeepsRules p
 keeps_unbroken p e Z2 = unbroken p 0 e
 keeps_unbroken p e Z3 = unbroken p 1 e
 keeps_unbroken p e Z4 = unbroken p 2 e
@@ -80,43 +77,3 @@ keeps_unbroken p e S6 = unbroken p 33 e
 keeps_unbroken p e S7 = unbroken p 34 e
 keeps_unbroken p e P1 = unbroken p 35 e
 keeps_unbroken p e _ = λ before x later same. refl
-
--- where one test or another has no lowest place, neither has one
-line_parts : (test other : RuleTest) (r : Rule) (p : Pipe) (before xs : List Place)
-    → line_by (λ q p front x. test q p front x || other q p front x) r p before xs ≡ None
-    → (line_by test r p before xs ≡ None) × (line_by other r p before xs ≡ None)
-line_parts test other r p before [] e = (refl, refl)
-line_parts test other r p before (x ∷ xs) e =
-    let parts = none_given (test r p before x || other r p before x) (line_of x) _ e in
-    let here = or_parts (test r p before x) (other r p before x) parts.0 in
-    let after = line_parts test other r p (before ++ x ∷ []) xs parts.1 in (
-      ap (λ b. if b then Some (line_of x) else line_by test r p (before ++ x ∷ []) xs) here.0 ∙ after.0,
-      ap (λ b. if b then Some (line_of x) else line_by other r p (before ++ x ∷ []) xs) here.1 ∙ after.1,
-    )
-
--- where some rules refuse nothing by one test or another, they refuse nothing by either
-first_parts : (test other : RuleTest) (rs : List Rule) (p : Pipe)
-    → first_by (λ q p front x. test q p front x || other q p front x) rs p ≡ None
-    → (first_by test rs p ≡ None) × (first_by other rs p ≡ None)
-first_parts test other [] p e = (refl, refl)
-first_parts test other (r ∷ rs) p e =
-    let parts = no_refusal r _ _ e in
-    let here = line_parts test other r p [] (places p) parts.0 in
-    let after = first_parts test other rs p parts.1 in
-    (ap (λ o. refused_at r o (first_by test rs p)) here.0 ∙ after.0, ap (λ o. refused_at r o (first_by other rs p)) here.1 ∙ after.1)
-
--- a pipe that is not refused breaks no rule at any place
-pub keeps_accepted : (p : Pipe) → first_broken (limits ++ after_limits) p ≡ None → KeepsRules p
-keeps_accepted p e = keeps_unbroken p (first_parts lacks_circuit breaks_rule (limits ++ after_limits) p e).1
-
--- the same by the k-th of the rules, of forms without circuit
-has_circuit : (p : Pipe) (k : ℕ)
-    → first_broken (limits ++ after_limits) p ≡ None → (before : List Place) (x : Place) (later : List Place)
-    → places p ≡ before ++ x ∷ later → lacks_circuit (get_or (limits ++ after_limits) k G1) p before x ≡ false
-has_circuit p k e =
-    failing lacks_circuit p (limits ++ after_limits) k (λ before x. refl) (first_parts lacks_circuit breaks_rule (limits ++ after_limits) p e).0
-
--- no place of a pipe that is not refused has a form without circuit
-pub built_accepted : (p : Pipe) → first_broken (limits ++ after_limits) p ≡ None → IsBuilt p
-built_accepted p e P1 = has_circuit p 35 e
-built_accepted p e _ = λ before x later same. refl

@@ -13,4 +13,3 @@ pub mod Refusal
 pub mod Typed
 pub mod Memories
 pub mod Advice
-pub mod Unbuilt

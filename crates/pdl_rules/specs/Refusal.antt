@@ -1,5 +1,5 @@
 -- The refusal of a source: of all broken rules the lowest in the order of the rules, and then its lowest place.
-use Rattle.std.specs.Prelude.{◌≡◌, ℕ, Bool, true, false, not, ◌&&◌, ◌||◌, List, [], ◌∷◌, ◌++◌, if◌then◌else◌, Option, Some, None}
+use Rattle.std.specs.Prelude.{◌≡◌, ℕ, Bool, true, false, not, ◌&&◌, List, [], ◌∷◌, ◌++◌, if◌then◌else◌, Option, Some, None}
 use Rattle.std.specs.List.{list_all}
 use Rattle.pdl_kit.specs.declared.rule.Rule.{Rule}
 use Rattle.pdl_kit.specs.declared.rule.Rule.TheVariants.{G1, Z1, Z2, Z3, Z4, Z5, Z6, Z7, N1, N2, N3, W1, W2, W3, W4, W5, W6, F1, F2, F3, F4, F5, L1, L2, L3, L4, L5, L6, L7, L8, S1, S2, S3, S4, S5, S6, S7, I1, I2, I3, I4, I5, I6, Y1, Y2, Y3, V1, V2, V3, V4, V5, B1, B2, B3, B4, B5, A1, A2, A3, A4, A5, A6, A7, A8, P1}
@@ -15,7 +15,6 @@ use Rattle.pdl_rules.specs.Forks.{breaks_f1, breaks_f2, breaks_f3, breaks_f4}
 use Rattle.pdl_rules.specs.Calls.{breaks_s1}
 use Rattle.pdl_rules.specs.Speculation.{breaks_s2, breaks_s3, breaks_s4, breaks_s5, breaks_s6, breaks_s7}
 use Rattle.pdl_rules.specs.Advice.{breaks_p1}
-use Rattle.pdl_rules.specs.Unbuilt.{lacks_circuit}
 
 -- whether the place, with these places before it in the text, breaks a rule; no tree breaks the rules of bytes and tokens, G1 and Z1, nor those of other files
 abbrev pub breaks_rule : Rule → Pipe → List Place → Place → Bool
@@ -99,36 +98,20 @@ pub record Refused : Type 0 where
   pub rule : Rule
   pub line : ℕ
 
--- whether the place is refused by a rule: it breaks the rule, or has a form of its subject that has no circuit yet
-abbrev pub is_refused : Rule → Pipe → List Place → Place → Bool
-is_refused r p before x = lacks_circuit r p before x || breaks_rule r p before x
-
--- a test of places by each rule
-abbrev pub RuleTest : Type 0
-RuleTest = Rule → Pipe → List Place → Place → Bool
-
--- the line of the first of these places that passes the test by the rule
-abbrev pub line_by : RuleTest → Rule → Pipe → List Place → List Place → Option ℕ
-line_by test r p before [] = None
-line_by test r p before (x ∷ xs) = if test r p before x then Some (line_of x) else line_by test r p (before ++ x ∷ []) xs
-
--- the line of the first of these places that is refused by the rule
+-- the line of the first of these places that breaks the rule
 abbrev pub broken_line : Rule → Pipe → List Place → List Place → Option ℕ
-broken_line r p before xs = line_by is_refused r p before xs
+broken_line r p before [] = None
+broken_line r p before (x ∷ xs) = if breaks_rule r p before x then Some (line_of x) else broken_line r p (before ++ x ∷ []) xs
 
 -- the refusal by a rule that is broken at a line, and by the later rules where it is not broken
 abbrev pub refused_at : Rule → Option ℕ → Option Refused → Option Refused
 refused_at r (Some line) later = Some (record { rule = r; line = line })
 refused_at r None later = later
 
--- the first of these rules by which a place passes the test, at its lowest place
-abbrev pub first_by : RuleTest → List Rule → Pipe → Option Refused
-first_by test [] p = None
-first_by test (r ∷ rs) p = refused_at r (line_by test r p [] (places p)) (first_by test rs p)
-
--- the first of these rules that refuses a place, at its lowest place
+-- the first of these rules that is broken, at its lowest place
 abbrev pub first_broken : List Rule → Pipe → Option Refused
-first_broken rs p = first_by is_refused rs p
+first_broken [] p = None
+first_broken (r ∷ rs) p = refused_at r (broken_line r p [] (places p)) (first_broken rs p)
 
 -- the refusal by all rules
 abbrev pub refusal : List ℕ → Pipe → Option Refused

@@ -3,7 +3,7 @@ use Rattle.std.proofs.Common.{◌≡◌, refl, sym, ap, ap₂, ◌∙◌, ℕ, z
 use Rattle.std.proofs.lemmas.List.{map_push}
 use Rattle.pdl_semantics.specs.Tree.{Pipe}
 use Rattle.pdl_rules.specs.Places.{Place, places, places_after, line_of}
-use Rattle.pdl_rules.specs.Refusal.{refused_at, is_refused, broken_line, first_broken}
+use Rattle.pdl_rules.specs.Refusal.{refused_at, breaks_rule, broken_line, first_broken}
 use Rattle.pdl_rules_forks.specs.declared.scan.ForkRule.{ForkRule}
 use Rattle.pdl_rules_forks.specs.declared.scan.ForkRule.TheVariants.{F1, F2, F3, F4, F5}
 use Rattle.pdl_rules_forks.proofs.Steps.{take_next}
@@ -11,7 +11,7 @@ use Rattle.pdl_rules_forks.specs.Order as order
 use Rattle.pdl_word.proofs.Lists.{drop_next}
 
 asked : (r : ForkRule) (p : Pipe) (before : List Place) (x : Place)
-    → is_refused (order.rule_of r) p before x ≡ order.breaks_fork_rule r p before x
+    → breaks_rule (order.rule_of r) p before x ≡ order.breaks_fork_rule r p before x
 unfolding order.breaks_fork_rule
 asked F1 p before x = refl
 asked F2 p before x = refl

@@ -11,7 +11,7 @@ use Rattle.pdl_semantics.specs.Tree.{Stmt, Separator, CombRead, Bind, SpecCall, 
 use Rattle.pdl_rules.specs.Places.{Place, Parameter, Memory, Statement, End, StartClause, line_of}
 use Rattle.pdl_rules.specs.Parts.{is_some_and, parts_of}
 use Rattle.pdl_rules.specs.Names.{Use, OfVariable, OfMemory, OfGuess, defines_use, name_at, name_of, either_name, is_taken_name, breaks_n2}
-use Rattle.pdl_rules.specs.Refusal.{breaks_rule, is_refused, broken_line}
+use Rattle.pdl_rules.specs.Refusal.{breaks_rule, broken_line}
 use Rattle.pdl_rules_names.specs.First.{first_where}
 use Rattle.pdl_rules_names.proofs.Firsts.{zero_first, later_first}
 use Rattle.pdl_word.proofs.Bools.{none_given}
@@ -109,7 +109,7 @@ none_taken r p before [] zero e = refl
 none_taken r p before [] (suc k) e = refl
 none_taken r p before (x ∷ xs) zero e = refl
 none_taken r p before (x ∷ xs) (suc k) e =
-    let parts = none_given (is_refused r p before x) (line_of x) (broken_line r p (before ++ x ∷ []) xs) e in
+    let parts = none_given (breaks_rule r p before x) (line_of x) (broken_line r p (before ++ x ∷ []) xs) e in
     ap₂ (λ b o. if b then Some (line_of x) else o) parts.0 (none_taken r p (before ++ x ∷ []) xs k parts.1)
 
 -- where no place breaks N2, no place after the first definition of what is used defines it again

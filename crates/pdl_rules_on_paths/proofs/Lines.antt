@@ -6,14 +6,14 @@ use Rattle.pdl_kit.specs.declared.rule.Rule.{Rule}
 use Rattle.pdl_semantics.specs.Tree.{Pipe}
 use Rattle.pdl_rules.specs.Places.{Place, line_of}
 use Rattle.pdl_rules.specs.Parts.{is_some_and}
-use Rattle.pdl_rules.specs.Refusal.{is_refused, broken_line}
+use Rattle.pdl_rules.specs.Refusal.{breaks_rule, broken_line}
 use Rattle.pdl_rules_on_paths.specs.Lowest.{line_where, first_line, breaks_at, nth_line, IsLowest}
 use Rattle.pdl_rules_on_paths.proofs.Nth.{past_last}
 
 -- the lines of a rule of the definitions
-pub rule_lines : (r : Rule) (p : Pipe) (before xs : List Place) → line_where (is_refused r p) before xs ≡ broken_line r p before xs
+pub rule_lines : (r : Rule) (p : Pipe) (before xs : List Place) → line_where (breaks_rule r p) before xs ≡ broken_line r p before xs
 rule_lines r p before [] = refl
-rule_lines r p before (x ∷ xs) = ap (λ later. if is_refused r p before x then Some (line_of x) else later) (rule_lines r p (before ++ x ∷ []) xs)
+rule_lines r p before (x ∷ xs) = ap (λ later. if breaks_rule r p before x then Some (line_of x) else later) (rule_lines r p (before ++ x ∷ []) xs)
 
 -- two tests that agree at every place have the same first line
 pub same_lines : (f g : List Place → Place → Bool)

@@ -4,7 +4,6 @@ use Rattle.std.specs.List.{list_any}
 use Rattle.pdl_semantics.specs.Tree.{Stmt, Separator, CombRead, Bind, SpecCall, DelayedRead, Write, Reserve, Block, Release, If, Call, Verify, Update, SpecCheck, SpecBarrier, Mem}
 use Rattle.pdl_semantics.specs.Flatten.{Var, is_advisory_mem, is_advised_var, is_advised}
 use Rattle.pdl_rules.specs.Places.{Place, at_statement}
-use Rattle.pdl_rules.specs.Unbuilt.{is_advisory_memory}
 
 -- whether a statement uses an advised variable where none may stand
 abbrev pub uses_advice : List Var → List Mem → Stmt → Bool
@@ -27,7 +26,3 @@ uses_advice vs ms (SpecBarrier _) = false
 -- whether a place does
 abbrev pub breaks_advice : List Var → List Mem → Place → Bool
 breaks_advice vs ms x = at_statement false (λ s bs. uses_advice vs ms s) x
-
--- whether a place declares an advisory memory, or uses an advised variable where none may stand
-abbrev pub is_unadvised : List Var → List Mem → Place → Bool
-is_unadvised vs ms x = is_advisory_memory x || breaks_advice vs ms x

@@ -4,12 +4,11 @@ ghost use Rattle.pdl_kit.specs.declared.rule.Rule.TheVariants.{P1};
 ghost use Rattle.pdl_syntax_tree.specs.View.{mem_view, pipe_view};
 ghost use Rattle.pdl_rules.specs.Places.{places as spec_places};
 ghost use Rattle.pdl_rules.specs.Refusal.{first_broken};
-ghost use Rattle.pdl_rules.specs.Unbuilt.{is_advisory_memory as spec_advisory_memory};
 ghost use Rattle.pdl_rules.specs.Widths as spec;
 ghost use Rattle.pdl_paths.specs.Actions.{place_view};
 ghost use Rattle.pdl_rules_on_paths.specs.Lowest.{first_line};
 ghost use Rattle.pdl_rules_on_texts.specs.Refused.{refused_of};
-ghost use Rattle.pdl_rules_widths.specs.Advice.{breaks_advice as spec_breaks_advice, is_unadvised as spec_unadvised};
+ghost use Rattle.pdl_rules_widths.specs.Advice.{breaks_advice as spec_breaks_advice};
 
 use crate::advised::{is_advised, is_some_advised};
 use crate::variables::Variables;
@@ -31,40 +30,17 @@ pub fn advice_broken(pipe: &Pipe, variables: &Variables, places: &[Place<'_>]) -
     )
 }
 
-// The line of the first place that declares an advisory memory, which has no circuit yet, or uses an advised variable where none may stand.
+// The line of the first place that uses an advised variable where none may stand.
 fn advice_line(variables: &Variables, mems: &[Mem], places: &[Place<'_>]) -> Option<u32>
-    ensures { result ≡ first_line (spec_unadvised variables.now (map mem_view mems.now))
+    ensures { result ≡ first_line (spec_breaks_advice variables.now (map mem_view mems.now))
         (map place_view places.now) }
 {
     for place in places {
-        if is_unadvised(variables, mems, place) {
+        if breaks_advice(variables, mems, place) {
             return Some(place.line());
         }
     }
     None
-}
-
-// Whether the place declares an advisory memory, or uses an advised variable where none may stand.
-fn is_unadvised(variables: &Variables, mems: &[Mem], place: &Place<'_>) -> bool
-    ensures { result ≡ spec_unadvised variables.now (map mem_view mems.now)
-        (place_view place.now) }
-{
-    is_advisory_memory(place) || breaks_advice(variables, mems, place)
-}
-
-// Whether the place declares an advisory memory.
-fn is_advisory_memory(place: &Place<'_>) -> bool
-    ensures { result ≡ spec_advisory_memory (place_view place.now) }
-{
-    match place.action {
-        Action::Memory(mem) => mem.kind.is_advisory(),
-        Action::Parameter(_) | Action::Separator | Action::CombRead(_, _) => false,
-        Action::Bind(_, _) | Action::SpecCall(_, _) | Action::DelayedRead(_, _) => false,
-        Action::Write(_, _) | Action::Reserve(_, _) | Action::Block(_) => false,
-        Action::Release(_) | Action::If(_, _, _) | Action::Call(_) => false,
-        Action::Verify(_, _) | Action::Update(_, _) | Action::SpecCheck => false,
-        Action::SpecBarrier | Action::End | Action::StartClause(_) => false,
-    }
 }
 
 // Whether the place uses an advised variable where none may stand.

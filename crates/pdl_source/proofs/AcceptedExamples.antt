@@ -6,8 +6,8 @@ use Rattle.pdl_semantics.specs.Flatten.{flat}
 use Rattle.pdl_semantics.specs.Promises.{Refines}
 use Rattle.pdl_semantics.proofs.Texts.{constant, variable, slice, separator, bind, call, if_else, pipe}
 use Rattle.pdl_semantics.proofs.Pipes.{shared_guard, copy_guessed, count_slow, two_branches, guess_learnt, guess_kept}
-use Rattle.pdl_rules.specs.Refusal.{breaks_rule, first_broken, first_by, limits, after_limits}
-use Rattle.pdl_rules.proofs.Unbroken.{keeps_accepted, keeps_unbroken}
+use Rattle.pdl_rules.specs.Refusal.{first_broken, limits, after_limits}
+use Rattle.pdl_rules.proofs.Unbroken.{keeps_unbroken}
 use Rattle.pdl_theory_facts.specs.SoundChecks.{passes_tests}
 use Rattle.pdl_theory.proofs.SoundExamples.{passed_by}
 use Rattle.pdl_theory.proofs.StatedTheorems.{whole_refines}
@@ -17,10 +17,6 @@ use Rattle.pdl_source_paths.proofs.PipeFacts.{of_source}
 -- it is refused by no rule and is as sources are
 abbrev rules_of : Pipe → Type 0
 rules_of p = (first_broken (limits ++ after_limits) p ≡ None) × (is_source p ≡ true) × (is_named p ≡ true)
-
--- it keeps the rules and is as sources are; it may have forms that are refused for want of a circuit
-abbrev keeps_rules : Pipe → Type 0
-keeps_rules p = (first_by breaks_rule (limits ++ after_limits) p ≡ None) × (is_source p ≡ true) × (is_named p ≡ true)
 
 guards_keep : rules_of shared_guard
 guards_keep = (refl, refl, refl)
@@ -38,13 +34,13 @@ passed_keeps : rules_of passed_by
 passed_keeps = (refl, refl, refl)
 
 passed_refines : (image : Arrays) (schedule : List (List Bool)) → Refines (flat passed_by) image schedule
-passed_refines = whole_refines (flat passed_by) (of_source passed_by (keeps_accepted passed_by refl) refl refl)
+passed_refines = whole_refines (flat passed_by) (of_source passed_by (keeps_unbroken passed_by refl) refl refl)
 
 -- with an advisory memory
-learnt_keeps : keeps_rules guess_learnt
+learnt_keeps : rules_of guess_learnt
 learnt_keeps = (refl, refl, refl)
 
-kept_keeps : keeps_rules guess_kept
+kept_keeps : rules_of guess_kept
 kept_keeps = (refl, refl, refl)
 
 learnt_refines : (image : Arrays) (schedule : List (List Bool)) → Refines (flat guess_learnt) image schedule

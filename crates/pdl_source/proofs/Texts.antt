@@ -4,7 +4,7 @@ use Rattle.std.specs.List.{list_any}
 use Rattle.pdl_semantics.specs.Tree.{Param, LockDecl, Mem, Pipe}
 use Rattle.pdl_syntax_tokens.specs.declared.token.Mark.{Mark}
 use Rattle.pdl_syntax_tokens.specs.Tokens.{Row, tokens}
-use Rattle.pdl_syntax_grammar.specs.Grammar.{Listed, last, further, Lock, unlocked, locked, Memory, memory, Parameter, parameter, Text, text}
+use Rattle.pdl_syntax_grammar.specs.Grammar.{Listed, last, further, Lock, unlocked, locked, Memory, memory, advisory, Parameter, parameter, Text, text}
 use Rattle.pdl_syntax_grammar.specs.Text.{IsText}
 use Rattle.pdl_rules.specs.Places.{Place, statements, places}
 use Rattle.pdl_rules.specs.Places as place
@@ -29,7 +29,9 @@ after_lock lock a r locked n h = later 5 h
 memories_ordered : (close : Mark) (ms : List Mem) (a r : Row) → Listed Memory close ms a r → (xs : List Place)
     → Follows r xs → Follows a (map place.Memory ms ++ xs)
 memories_ordered close ms a r (last (memory d l)) xs f n h = (refl, f n (later 1 (after_lock _ _ _ l n (later 10 h))))
+memories_ordered close ms a r (last advisory) xs f n h = (refl, f n (later 11 h))
 memories_ordered close ms a r (further (memory d l) ls) xs f n h = (refl, memories_ordered _ _ _ _ ls xs f n (later 1 (after_lock _ _ _ l n (later 10 h))))
+memories_ordered close ms a r (further advisory ls) xs f n h = (refl, memories_ordered _ _ _ _ ls xs f n (later 11 h))
 
 -- ---- texts
 

@@ -513,8 +513,8 @@ module _ (p : Pipe) (rules : KeepsRules p) where
           (flat_expr t.walk.vars v) refl refl) ∙ f))
       at t h s e m f = absurd (false≢true f)
 
-  -- F4: a statement takes a memory by its kind
-  advisory_is : (ms : List Mem) (n : List ℕ) → is_advisory (slice_index_or (mems_of ms) (mem_of ms n) plain_mem).kind ≡ Flatten.is_advisory_mem ms n
+  -- in the flat form a memory is advisory where the memory of its name is
+  pub advisory_is : (ms : List Mem) (n : List ℕ) → is_advisory (slice_index_or (mems_of ms) (mem_of ms n) plain_mem).kind ≡ Flatten.is_advisory_mem ms n
   advisory_is [] n = refl
   advisory_is (m ∷ ms) n = at (bytes_eq m.name.name n) (advisory_is ms n)
     where

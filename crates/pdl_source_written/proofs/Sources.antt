@@ -7,7 +7,7 @@ use Rattle.pdl_kit.specs.declared.mem_info.MemInfo.{MemInfo}
 use Rattle.pdl_semantics.specs.Tree.{LockDecl, Mem, Param, Pipe}
 use Rattle.pdl_syntax_tokens.specs.declared.token.Mark.{Mark}
 use Rattle.pdl_syntax_tokens.specs.Tokens.{Row, tokens}
-use Rattle.pdl_syntax_grammar.specs.Grammar.{Listed, last, further, Memory, memory, Parameter, parameter, Lock, unlocked, locked, Text, text}
+use Rattle.pdl_syntax_grammar.specs.Grammar.{Listed, last, further, Memory, memory, advisory, Parameter, parameter, Lock, unlocked, locked, Text, text}
 use Rattle.pdl_syntax_grammar.specs.Text.{IsText}
 use Rattle.pdl_net.specs.declared.Netlist.{Netlist}
 use Rattle.pdl_rules.specs.Refusal.{answers_at_once}
@@ -32,6 +32,7 @@ lock_rest l a r locked t = t.1.1.1.1.1
 
 memory_named : (m : Mem) (a r : Row) → Memory m a r → AreNamed a → (is_name m.name.name ≡ true) × AreNamed r
 memory_named m a r (memory d k) t = (t.0 refl, lock_rest _ _ _ k t.1.1.1.1.1.1.1.1.1.1)
+memory_named m a r advisory t = (t.0 refl, t.1.1.1.1.1.1.1.1.1.1)
 
 memories_named : (c : Mark) (ms : List Mem) (a r : Row) → Listed Memory c ms a r → AreNamed a → HaveNames ms
 memories_named c ms a r (last k) t = ((memory_named _ _ _ k t).0, tt)

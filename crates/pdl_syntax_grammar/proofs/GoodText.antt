@@ -1,17 +1,17 @@
 -- Texts are read as the automaton takes them, and what is read is so.
-use Rattle.std.proofs.Common.{◌≡◌, ℕ, ◌<◌, Bool, false, List, [], ◌∷◌, ◌++◌, length, Option, Some, None, Ok, cond, refl, sym, subst, arith}
-use Rattle.pdl_semantics.specs.Tree.{Span, Ident, Number, Literal, Stmts, LockDecl, Param, Mem, Start}
+use Rattle.std.proofs.Common.{◌≡◌, ℕ, ◌<◌, Bool, true, false, List, [], ◌∷◌, ◌++◌, length, Option, Some, None, Ok, cond, refl, sym, subst, arith}
+use Rattle.pdl_semantics.specs.Tree.{Span, Ident, Number, Literal, Stmts, LockDecl, Param, MemKind, Advisory, Mem, Start}
 use Rattle.pdl_syntax_tokens.specs.declared.token.Mark.TheVariants as mark
 use Rattle.pdl_syntax_tokens.specs.declared.token.TokenKind.{TokenKind}
 use Rattle.pdl_syntax_tokens.specs.declared.token.TokenKind.TheVariants as kind
 use Rattle.pdl_syntax_tokens.specs.Cursor.{next, first_kind}
 use Rattle.pdl_syntax_tokens.specs.Tokens.{Row}
-use Rattle.pdl_syntax_grammar.specs.Grammar.{Word, on, at, pace_mark, Listed, Items, Parameter, parameter, Lock, unlocked, locked as locked_by, Memory, memory, Given, given, Starting, starting, Text, text}
+use Rattle.pdl_syntax_grammar.specs.Grammar.{Word, on, at, ident, number as number_of, type_row, pace_mark, pace_kind, Listed, Items, Parameter, parameter, Lock, unlocked, locked as locked_by, Memory, memory, advisory, Given, given, Starting, starting, Text, text}
 use Rattle.pdl_syntax_cursor.specs.Looks.{is_mark}
-use Rattle.pdl_syntax_grammar.specs.Reading.{Outcome, literal, width, param, lock_clause, lock, shape, mem, items, start, pipe_head, pipe_rest, pipe}
+use Rattle.pdl_syntax_grammar.specs.Reading.{Outcome, literal, width, param, lock_clause, lock, pace, keeping, shape, mem, items, start, pipe_head, pipe_rest, pipe}
 use Rattle.pdl_syntax_grammar.specs.Automaton.{a, a_name, a_number, a_literal, a_pace, a_lock_kind, more, locked, params, mems, literals, first_of, start_clause, whole, Stack, run}
 use Rattle.pdl_syntax_grammar.specs.Automaton as m
-use Rattle.pdl_syntax_grammar.proofs.GoodTokens.{Good, reads, stops, then, step, word, word_of, Valued, take_good, name_good, number_good, literal_good, lock_kind_good, pace_good, on_test, begins}
+use Rattle.pdl_syntax_grammar.proofs.GoodTokens.{Good, reads, stops, then, step, word, word_of, Valued, take_good, name_good, number_good, literal_good, lock_kind_good, on_test, begins}
 use Rattle.pdl_syntax_grammar.proofs.GoodItems.{listed_good}
 use Rattle.pdl_syntax_grammar.proofs.GoodBranches.{branch_good, items_good}
 
@@ -69,8 +69,25 @@ lock_good ts =
     subst (λ us. Good (λ x r. Lock x us r) (locked ∷ []) (more mems ∷ []) (lock_clause (next us)) us) (sym s.is) (step refl (lock_of_good s.w s.more)))
     (λ e. reads unlocked (omega arith) (λ below. no_lock ts below e))
 
+-- the tokens are the kind of a memory, and its lock or none
+data IsKeeping (ts : Row) : MemKind × Option LockDecl → Row → Type 0 where
+  paced : {l : Option LockDecl} {r : Row} (k : Word) (delayed : Bool) (a : Row) → ts ≡ at k (pace_mark delayed) ∷ a → Lock l a r
+      → IsKeeping ts (pace_kind delayed, l) r
+  advised : {r : Row} (k : Word) → ts ≡ at k mark.Advisory ∷ r → IsKeeping ts (Advisory, None) r
+
+keeping_good : (ts : Row) → Good (IsKeeping ts) (a_pace ∷ []) (more mems ∷ []) (keeping ts) ts
+unfolding keeping pace
+keeping_good [] = stops (λ below. refl)
+keeping_good (t ∷ ts) = go t.kind (word_of t)
+  where
+    go : (k : TokenKind) (w : Word) → Good (IsKeeping (on w k ∷ ts)) (a_pace ∷ []) (more mems ∷ []) (keeping (on w k ∷ ts)) (on w k ∷ ts)
+    go (kind.Mark mark.Comb) w = step refl (then [] _ (lock_good ts) (λ l r p _. reads (paced w false ts refl p) (omega arith) (λ below. refl)))
+    go (kind.Mark mark.Delayed) w = step refl (then [] _ (lock_good ts) (λ l r p _. reads (paced w true ts refl p) (omega arith) (λ below. refl)))
+    go (kind.Mark mark.Advisory) w = reads (advised w refl) (omega arith) (λ below. refl)
+    go _ w = stops (λ below. refl)
+
 -- the tokens are what stands after the name of a memory
-record IsShape (ts : Row) (v : Number × Number × Bool × Option LockDecl) (r : Row) : Type 0 where
+record IsShape (ts : Row) (v : Number × Number × MemKind × Option LockDecl) (r : Row) : Type 0 where
   c : Word
   u : Word
   o : Word
@@ -79,15 +96,14 @@ record IsShape (ts : Row) (v : Number × Number × Bool × Option LockDecl) (r :
   p : Word
   y : List ℕ
   z : Word
-  k : Word
   a : Row
   is : ts ≡ at c mark.Colon ∷ at u mark.Uint ∷ at o mark.Less ∷ on (word x v.0.span) (kind.Number v.0.value) ∷ at g mark.Greater
-      ∷ at p mark.OpenSquare ∷ on (word y v.1.span) (kind.Number v.1.value) ∷ at z mark.CloseSquare ∷ at k (pace_mark v.2) ∷ a
-  lock : Lock v.3 a r
+      ∷ at p mark.OpenSquare ∷ on (word y v.1.span) (kind.Number v.1.value) ∷ at z mark.CloseSquare ∷ a
+  keeping : IsKeeping a (v.2, v.3) r
 
 shape_good : (ts : Row)
     → Good (IsShape ts)
-    (a mark.Colon ∷ a mark.Uint ∷ a mark.Less ∷ a_number ∷ a mark.Greater ∷ a mark.OpenSquare ∷ a_number ∷ a mark.CloseSquare ∷ a_pace ∷ locked ∷ [])
+    (a mark.Colon ∷ a mark.Uint ∷ a mark.Less ∷ a_number ∷ a mark.Greater ∷ a mark.OpenSquare ∷ a_number ∷ a mark.CloseSquare ∷ a_pace ∷ [])
     (more mems ∷ []) (shape ts) ts
 unfolding shape
 shape_good ts =
@@ -96,8 +112,7 @@ shape_good ts =
     then _ _ (take_good mark.OpenSquare r3) (λ p r4 p4 _.
     then _ _ (number_good r4) (λ d r5 p5 _.
     then _ _ (take_good mark.CloseSquare r5) (λ z r6 p6 _.
-    then _ _ (pace_good r6) (λ k r7 p7 _.
-    then [] _ (lock_good r7) (λ l r8 p8 _.
+    then [] _ (keeping_good r6) (λ k r7 p7 _.
     reads
     (record {
       c = word p2.0 c;
@@ -108,19 +123,25 @@ shape_good ts =
       p = word p4.0 p;
       y = p5.0;
       z = word p6.0 z;
-      k = p7.0;
-      a = r7;
-      is = rw (p2.1, p3.is, p4.1, p5.1, p6.1, p7.1) refl;
-      lock = p8;
+      a = r6;
+      is = rw (p2.1, p3.is, p4.1, p5.1, p6.1) refl;
+      keeping = p7;
     })
-    (omega arith) (λ below. refl))))))))
+    (omega arith) (λ below. refl)))))))
+
+-- a memory by its name, its sizes, its kind and its lock
+memory_of : {x c u o w g p d z : Word} {n size : ℕ} {ts r : Row} (v : MemKind × Option LockDecl) → IsKeeping ts v r
+    → Memory (record { name = ident x; width = number_of w n; depth = number_of d size; kind = v.0; lock = v.1 })
+    (type_row x c u o w n g (at p mark.OpenSquare ∷ on d (kind.Number size) ∷ at z mark.CloseSquare ∷ ts)) r
+memory_of _ (paced k delayed rest e h) = rw e (memory delayed h)
+memory_of _ (advised k e) = rw e advisory
 
 mem_good : (ts : Row) → Good (λ x r. Memory x ts r) (first_of mems) (more mems ∷ []) (mem ts) ts
 unfolding mem
 mem_good ts =
     then _ _ (name_good ts) (λ x r1 p1 _.
     then [] _ (shape_good r1) (λ s r2 p2 _.
-    reads (rw (p1, p2.is) (memory s.2 p2.lock)) (omega arith) (λ below. refl)))
+    reads (rw (p1, p2.is) (memory_of (s.2, s.3) p2.keeping)) (omega arith) (λ below. refl)))
 
 given_good : (ts : Row) → Good (λ x r. Given x ts r) (first_of literals) (more literals ∷ []) (literal ts) ts
 given_good ts = go (literal_good ts)

@@ -10,11 +10,11 @@ use Rattle.pdl_syntax_tokens.specs.declared.token.TokenKind.TheVariants as kind
 use Rattle.pdl_syntax_tokens.specs.Cursor.{first_kind}
 use Rattle.pdl_syntax_tokens.specs.Tokens.{Token}
 use Rattle.pdl_syntax_tokens.specs.Tokens.{Row}
-use Rattle.pdl_syntax_grammar.specs.Grammar.{Word, on, at, mark_of, lock_mark, pace_mark, location_row}
+use Rattle.pdl_syntax_grammar.specs.Grammar.{Word, on, at, mark_of, lock_mark, location_row}
 use Rattle.pdl_syntax_cursor.specs.Looks.{is_mark}
-use Rattle.pdl_syntax_grammar.specs.Reading.{Outcome, Parser, and_then, take, name, number, literal, access, lock_kind, pace}
+use Rattle.pdl_syntax_grammar.specs.Reading.{Outcome, Parser, and_then, take, name, number, literal, access, lock_kind}
 use Rattle.pdl_syntax_grammar.specs.Reading as reading
-use Rattle.pdl_syntax_grammar.specs.Automaton.{Sym, a, a_name, a_number, a_literal, an_access, a_pace, a_lock_kind, Stack, act, run}
+use Rattle.pdl_syntax_grammar.specs.Automaton.{Sym, a, a_name, a_number, a_literal, an_access, a_lock_kind, Stack, act, run}
 
 -- what a reader answers is so, and the automaton has the same tokens left, and where it refuses tokens the automaton stops at them
 pub data Good {A : Type 0} (P : A → Row → Type 0) (before after : Stack) : Outcome A → Row → Type 0 where
@@ -185,21 +185,6 @@ lock_kind_good (t ∷ ts) = go t.kind (word_of t)
     go (kind.Mark mark.Queue) w = reads (w, refl) (omega arith) (λ below. refl)
     go (kind.Mark mark.Bypass) w = reads (w, refl) (omega arith) (λ below. refl)
     go (kind.Mark mark.Rename) w = reads (w, refl) (omega arith) (λ below. refl)
-    go _ w = stops (λ below. refl)
-
--- the tokens begin with the `comb` or `delayed`
-abbrev pub Paced : Row → Bool → Row → Type 0
-Paced ts delayed r = (w : Word) × (ts ≡ at w (pace_mark delayed) ∷ r)
-
--- `comb` or `delayed` is read as the automaton takes it, and what is read is so
-pub pace_good : (ts : Row) → Good (Paced ts) (a_pace ∷ []) [] (pace ts) ts
-unfolding pace
-pace_good [] = stops (λ below. refl)
-pace_good (t ∷ ts) = go t.kind (word_of t)
-  where
-    go : (k : TokenKind) (w : Word) → Good (Paced (on w k ∷ ts)) (a_pace ∷ []) [] (pace (on w k ∷ ts)) (on w k ∷ ts)
-    go (kind.Mark mark.Comb) w = reads (w, refl) (omega arith) (λ below. refl)
-    go (kind.Mark mark.Delayed) w = reads (w, refl) (omega arith) (λ below. refl)
     go _ w = stops (λ below. refl)
 
 -- the tokens begin with the name in square brackets

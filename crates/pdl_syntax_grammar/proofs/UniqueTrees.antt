@@ -2,14 +2,14 @@
 use Rattle.std.proofs.Common.{◌≡◌, ℕ, zero, suc, pred, ◌≤◌, ◌<◌, Bool, true, false, List, ◌∷◌, length, Option, Some, None, Ok, cond, nat_eq, refl, ◌∙◌, arith}
 use Rattle.std.proofs.lemmas.Bool.{eqb-true}
 use Rattle.std.proofs.lemmas.Bool.Decides.{nat_tests}
-use Rattle.pdl_semantics.specs.Tree.{BinaryOp, Expr, Binary, Kind, R, W, Stmt, Stmts, LockKind, Queue, Bypass, Rename, LockDecl, Param, Mem, Literal, Start, Pipe}
+use Rattle.pdl_semantics.specs.Tree.{BinaryOp, Expr, Binary, Kind, R, W, Stmt, Stmts, LockKind, Queue, Bypass, Rename, LockDecl, Param, Advisory, Mem, Literal, Start, Pipe}
 use Rattle.pdl_syntax_tokens.specs.declared.token.Mark.{Mark}
 use Rattle.pdl_syntax_tokens.specs.declared.token.Mark.TheVariants as mark
 use Rattle.pdl_syntax_tokens.specs.declared.token.TokenKind.{TokenKind}
 use Rattle.pdl_syntax_tokens.specs.declared.token.TokenKind.TheVariants as kind
 use Rattle.pdl_syntax_tokens.specs.Cursor.{next, first_kind}
 use Rattle.pdl_syntax_tokens.specs.Tokens.{Row}
-use Rattle.pdl_syntax_grammar.specs.Grammar.{Word, at, operator_of, loose, levels, mark_of, lock_mark, pace_mark, Listed, last, further, Level, Full, constant, variable, sliced, bracketed, inverted, catenated, compared, extended, sign_extended, tighter, joined, whole, chosen, Item, separating, reading, binding, guessing, fetching, writing, reserving, acquiring, blocking, releasing, branching, choosing, calling, verifying, updating, checking, barring, Items, none, more, Parameter, parameter, Lock, unlocked, locked, Memory, memory, Given, given, Starting, starting, Text, text}
+use Rattle.pdl_syntax_grammar.specs.Grammar.{Word, at, operator_of, loose, levels, mark_of, lock_mark, pace_mark, pace_kind, Listed, last, further, Level, Full, constant, variable, sliced, bracketed, inverted, catenated, compared, extended, sign_extended, tighter, joined, whole, chosen, Item, separating, reading, binding, guessing, fetching, writing, reserving, acquiring, blocking, releasing, branching, choosing, calling, verifying, updating, checking, barring, Items, none, more, Parameter, parameter, Lock, unlocked, locked, Memory, memory, advisory, Given, given, Starting, starting, Text, text}
 use Rattle.pdl_syntax_cursor.specs.Looks.{is_mark, begins_place, is_place}
 use Rattle.pdl_syntax_grammar.specs.Reading.{Parser, goes_on, list_of, op_in, op_by, chain, level, full, inside, expr, args, item, items, pipe}
 use Rattle.pdl_syntax_grammar.specs.Reading as spec
@@ -75,6 +75,7 @@ shorter_lock locked = omega arith
 
 mem_shorter : (x : Mem) (ts r : Row) → Memory x ts r → length r < length ts
 mem_shorter x ts r (memory d h) = let k = shorter_lock h in omega arith
+mem_shorter x ts r advisory = omega arith
 
 given_shorter : (x : Literal) (ts r : Row) → Given x ts r → length r < length ts
 given_shorter x ts r given = omega arith
@@ -322,19 +323,25 @@ only_lock_kind Queue w r = refl
 only_lock_kind Bypass w r = refl
 only_lock_kind Rename w r = refl
 
-only_pace : (delayed : Bool) (w : Word) (r : Row) → spec.pace (at w (pace_mark delayed) ∷ r) ≡ Ok (delayed, r)
-unfolding spec.pace
-only_pace true w r = refl
-only_pace false w r = refl
-
 only_lock : {x : Option LockDecl} {ts r : Row} → Lock x ts r → is_mark mark.Lock (first_kind r) ≡ false → spec.lock ts ≡ Ok (x, r)
 unfolding spec.lock spec.take spec.number
 only_lock unlocked f = rw f refl
 only_lock (locked {how = k}) f = rw only_lock_kind refl
 
+only_keeping : {x : Option LockDecl} {ts r : Row} (delayed : Bool) (w : Word) → Lock x ts r → is_mark mark.Lock (first_kind r) ≡ false
+    → spec.keeping (at w (pace_mark delayed) ∷ ts) ≡ Ok ((pace_kind delayed, x), r)
+unfolding spec.keeping spec.pace
+only_keeping true w h f = rw (only_lock h f) refl
+only_keeping false w h f = rw (only_lock h f) refl
+
+only_advisory : (w : Word) (r : Row) → spec.keeping (at w mark.Advisory ∷ r) ≡ Ok ((Advisory, None), r)
+unfolding spec.keeping spec.pace
+only_advisory w r = refl
+
 only_mem : {x : Mem} {ts r : Row} → Memory x ts r → is_mark mark.Lock (first_kind r) ≡ false → spec.mem ts ≡ Ok (x, r)
 unfolding spec.mem spec.shape spec.width spec.name spec.take spec.number
-only_mem (memory d h) f = rw only_pace (rw (only_lock h f) refl)
+only_mem (memory {k = k} d h) f = rw (only_keeping d k h f) refl
+only_mem (advisory {k = k} {r = r}) f = rw (only_advisory k r) refl
 
 only_given : {x : Literal} {ts r : Row} → Given x ts r → spec.literal ts ≡ Ok (x, r)
 unfolding spec.literal

@@ -32,7 +32,7 @@ pub data Sym : Type 0 where
   a_number : Sym
   a_literal : Sym
   an_access : Sym
-  a_pace : Sym  -- `comb` or `delayed`
+  a_pace : Sym  -- `comb`, `delayed` or `advisory`, then as after a memory
   a_lock_kind : Sym
   operand : Closer → Sym  -- an expression and its closer
   slicing : Closer → Sym  -- after a name: a slice, or what stands after an operand
@@ -61,7 +61,7 @@ closer literals = mark.CloseRound
 abbrev pub first_of : Listing → Stack
 first_of params = a_name ∷ a mark.Colon ∷ a mark.Uint ∷ a mark.Less ∷ a_number ∷ a mark.Greater ∷ more params ∷ []
 first_of mems =
-    a_name ∷ a mark.Colon ∷ a mark.Uint ∷ a mark.Less ∷ a_number ∷ a mark.Greater ∷ a mark.OpenSquare ∷ a_number ∷ a mark.CloseSquare ∷ a_pace ∷ locked ∷ []
+    a_name ∷ a mark.Colon ∷ a mark.Uint ∷ a mark.Less ∷ a_number ∷ a mark.Greater ∷ a mark.OpenSquare ∷ a_number ∷ a mark.CloseSquare ∷ a_pace ∷ []
 first_of args = operand in_args ∷ []
 first_of literals = a_literal ∷ more literals ∷ []
 
@@ -131,6 +131,13 @@ act_operand q _ = None
 abbrev pub act_locked : TokenKind → Option Stack
 act_locked (kind.Mark mark.Lock) = Some (a_lock_kind ∷ a mark.OpenRound ∷ a_number ∷ a mark.CloseRound ∷ more mems ∷ [])
 act_locked k = act_more mems k
+
+-- what a token brings where the kind of a memory is expected: a lock or not after `comb` and `delayed`, what follows a memory after `advisory`
+abbrev pub act_pace : TokenKind → Option Stack
+act_pace (kind.Mark mark.Comb) = Some (locked ∷ [])
+act_pace (kind.Mark mark.Delayed) = Some (locked ∷ [])
+act_pace (kind.Mark mark.Advisory) = Some (more mems ∷ [])
+act_pace _ = None
 
 -- a location in brackets, and what stands between it and the closing bracket
 abbrev pub held_stack : Stack → Stack
@@ -211,12 +218,6 @@ if_access (kind.Mark mark.R) = Some []
 if_access (kind.Mark mark.W) = Some []
 if_access _ = None
 
--- `comb` and `delayed` are taken where one of them is expected
-abbrev pub if_pace : TokenKind → Option Stack
-if_pace (kind.Mark mark.Comb) = Some []
-if_pace (kind.Mark mark.Delayed) = Some []
-if_pace _ = None
-
 -- `queue`, `bypass` and `rename` are taken where one of them is expected
 abbrev pub if_lock_kind : TokenKind → Option Stack
 if_lock_kind (kind.Mark mark.Queue) = Some []
@@ -231,7 +232,7 @@ act a_name k = if_name k
 act a_number k = if_number k
 act a_literal k = if_literal k
 act an_access k = if_access k
-act a_pace k = if_pace k
+act a_pace k = act_pace k
 act a_lock_kind k = if_lock_kind k
 act (operand q) k = act_operand q k
 act (slicing q) k = act_slicing q k

@@ -1,6 +1,6 @@
 -- The grammar. `Rule value before after` says that the tokens `before` are a spelling of the value, and then `after`; each constructor is an alternative.
 use Rattle.std.specs.Prelude.{◌≡◌, ℕ, suc, Bool, true, false, List, [], ◌∷◌, Option, Some, None}
-use Rattle.pdl_semantics.specs.Tree.{Span, Ident, Number, Literal, BinaryOp, Add, Sub, Mul, And, Or, Xor, Equal, Differ, Less, ShiftLeft, ShiftRight, Expr, Constant, Variable, Slice, Not, Binary, Cat, LessSigned, ZeroExtend, SignExtend, Choose, Location, Kind, R, W, Stmt, Separator, CombRead, Bind, SpecCall, DelayedRead, Write, Reserve, Block, Release, If, Call, Verify, Update, SpecCheck, SpecBarrier, Stmts, Nil, Cons, Param, LockKind, Queue, Bypass, Rename, LockDecl, MemKind, Comb, Delayed, Mem, Start, Pipe}
+use Rattle.pdl_semantics.specs.Tree.{Span, Ident, Number, Literal, BinaryOp, Add, Sub, Mul, And, Or, Xor, Equal, Differ, Less, ShiftLeft, ShiftRight, Expr, Constant, Variable, Slice, Not, Binary, Cat, LessSigned, ZeroExtend, SignExtend, Choose, Location, Kind, R, W, Stmt, Separator, CombRead, Bind, SpecCall, DelayedRead, Write, Reserve, Block, Release, If, Call, Verify, Update, SpecCheck, SpecBarrier, Stmts, Nil, Cons, Param, LockKind, Queue, Bypass, Rename, LockDecl, MemKind, Comb, Delayed, Advisory, Mem, Start, Pipe}
 use Rattle.pdl_syntax_tokens.specs.declared.token.Mark.{Mark}
 use Rattle.pdl_syntax_tokens.specs.declared.token.Mark.TheVariants as mark
 use Rattle.pdl_syntax_tokens.specs.declared.token.TokenKind.{TokenKind}
@@ -198,21 +198,24 @@ pub data Lock : Option LockDecl → Row → Row → Type 0 where
   locked : {l q o s c : Word} {how : LockKind} {n : ℕ} {r : Row} → Lock (Some (record { kind = how; size = number s n }))
       (at l mark.Lock ∷ at q (lock_mark how) ∷ at o mark.OpenRound ∷ on s (kind.Number n) ∷ at c mark.CloseRound ∷ r) r
 
--- the mark of a memory by whether it answers in a later cycle
+-- the mark of a memory that isn't advisory, by whether it answers in a later cycle
 abbrev pub pace_mark : Bool → Mark
 pace_mark true = mark.Delayed
 pace_mark false = mark.Comb
 
--- the kind of a memory by whether it answers in a later cycle
+-- the kind of a memory that isn't advisory, by whether it answers in a later cycle
 abbrev pub pace_kind : Bool → MemKind
 pace_kind true = Delayed
 pace_kind false = Comb
 
--- a memory
+-- a memory; an advisory one has no lock
 pub data Memory : Mem → Row → Row → Type 0 where
   memory : {x c u o w g p d z k : Word} {n size : ℕ} (delayed : Bool) {lock : Option LockDecl} {a r : Row} → Lock lock a r →
       Memory (record { name = ident x; width = number w n; depth = number d size; kind = pace_kind delayed; lock = lock })
       (type_row x c u o w n g (at p mark.OpenSquare ∷ on d (kind.Number size) ∷ at z mark.CloseSquare ∷ at k (pace_mark delayed) ∷ a)) r
+  advisory : {x c u o w g p d z k : Word} {n size : ℕ} {r : Row} →
+      Memory (record { name = ident x; width = number w n; depth = number d size; kind = Advisory; lock = None })
+      (type_row x c u o w n g (at p mark.OpenSquare ∷ on d (kind.Number size) ∷ at z mark.CloseSquare ∷ at k mark.Advisory ∷ r)) r
 
 -- an argument of the first thread
 pub data Given : Literal → Row → Row → Type 0 where

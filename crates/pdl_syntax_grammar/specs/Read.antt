@@ -1,6 +1,6 @@
 -- What the parts of the parser ensure.
-use Rattle.std.specs.Prelude.{◌≡◌, ◌≢◌, ℕ, Bool, List, map, [], ◌∷◌, ◌++◌, Option, Some, None, Result, Ok, Err}
-use Rattle.pdl_semantics.specs.Tree.{Span, Ident, Number, Expr, Location, Kind, Stmt, Stmts, Param, LockDecl, Mem, Start}
+use Rattle.std.specs.Prelude.{◌≡◌, ◌≢◌, ℕ, List, map, [], ◌∷◌, ◌++◌, Option, Some, None, Result, Ok, Err}
+use Rattle.pdl_semantics.specs.Tree.{Span, Ident, Number, Expr, Location, Kind, Stmt, Stmts, Param, LockDecl, MemKind, Mem, Start}
 use Rattle.pdl_syntax_grammar.specs.declared.item.GrammarItem.{GrammarItem}
 use Rattle.pdl_syntax_grammar.specs.declared.item.GrammarItem.TheVariants.{One, Two}
 use Rattle.pdl_syntax_grammar.specs.declared.item.ReservedEnd as r_reserved
@@ -11,6 +11,7 @@ use Rattle.pdl_syntax_grammar.specs.declared.item.ArgsEnd as r_args_end
 use Rattle.pdl_syntax_grammar.specs.declared.item.AgainstEnd as r_against_end
 use Rattle.pdl_syntax_grammar.specs.declared.item.Purpose as r_purpose
 use Rattle.pdl_syntax_grammar.specs.declared.item.MemShape as r_shape
+use Rattle.pdl_syntax_grammar.specs.declared.item.Keeping as r_keeping
 use Rattle.pdl_syntax_grammar.specs.declared.item.Head as r_head
 use Rattle.pdl_syntax_grammar.specs.declared.item.Rest as r_rest
 use Rattle.pdl_syntax_grammar.specs.declared.item.Bounds as r_bounds
@@ -25,7 +26,7 @@ use Rattle.pdl_syntax_grammar.specs.Grammar.{prepend}
 use Rattle.pdl_syntax_grammar.specs.Reading.{Outcome}
 use Rattle.pdl_syntax_grammar.specs.Text.{IsText, IsOutOfPlace}
 use Rattle.pdl_syntax_tree.specs.declared.tree.Pipe as r_pipe
-use Rattle.pdl_syntax_tree.specs.View.{span_view, ident_view, number_view, kind_view, location_view, expr_view, stmt_view, stmts_view, param_view, maybe_lock_view, mem_view, start_view, pipe_view}
+use Rattle.pdl_syntax_tree.specs.View.{span_view, ident_view, number_view, kind_view, location_view, expr_view, stmt_view, stmts_view, param_view, maybe_lock_view, mem_kind_view, mem_view, start_view, pipe_view}
 
 -- what is read is what the rule reads, or the tokens left begin with the one that it refuses, unless memory ran out
 abbrev pub Reads : {A B : Type 0} → (A → B) → Outcome B → Result A Stop → Row → Type 0
@@ -78,8 +79,12 @@ abbrev pub sized_view : r_sized.Sized → Expr × Number
 sized_view v = (expr_view v.e, number_view v.width)
 
 -- what stands after the name of a memory
-abbrev pub shape_view : r_shape.MemShape → Number × Number × Bool × Option LockDecl
-shape_view v = (number_view v.width, number_view v.depth, v.delayed, maybe_lock_view v.lock)
+abbrev pub shape_view : r_shape.MemShape → Number × Number × MemKind × Option LockDecl
+shape_view v = (number_view v.width, number_view v.depth, mem_kind_view v.kind, maybe_lock_view v.lock)
+
+-- the kind of a memory, and its lock or none
+abbrev pub keeping_view : r_keeping.Keeping → MemKind × Option LockDecl
+keeping_view v = (mem_kind_view v.kind, maybe_lock_view v.lock)
 
 -- what stands before the body of a pipe
 abbrev pub head_view : r_head.Head → Ident × List Param × List Mem

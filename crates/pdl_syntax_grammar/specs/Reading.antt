@@ -1,13 +1,13 @@
 -- How tokens are read: a value and the tokens after it, or the tokens from the one out of place on.
-use Rattle.std.specs.Prelude.{ℕ, zero, suc, Bool, true, false, List, [], ◌∷◌, Option, Some, None, Result, Ok, Err, cond}
-use Rattle.pdl_semantics.specs.Tree.{Span, Ident, Number, Expr, Location, Kind, Stmt, Separator, CombRead, Bind, SpecCall, DelayedRead, Write, Reserve, Block, Release, If, Call, Verify, Update, SpecCheck, SpecBarrier, Stmts, Nil, Param, LockKind, Queue, Bypass, Rename, LockDecl, Mem, Start, Pipe}
+use Rattle.std.specs.Prelude.{ℕ, zero, suc, List, [], ◌∷◌, Option, Some, None, Result, Ok, Err, cond}
+use Rattle.pdl_semantics.specs.Tree.{Span, Ident, Number, Expr, Location, Kind, Stmt, Separator, CombRead, Bind, SpecCall, DelayedRead, Write, Reserve, Block, Release, If, Call, Verify, Update, SpecCheck, SpecBarrier, Stmts, Nil, Param, LockKind, Queue, Bypass, Rename, LockDecl, MemKind, Comb, Delayed, Advisory, Mem, Start, Pipe}
 use Rattle.pdl_syntax_tokens.specs.declared.token.Mark.TheVariants as mark
 use Rattle.pdl_syntax_tokens.specs.declared.token.TokenKind.{TokenKind}
 use Rattle.pdl_syntax_tokens.specs.declared.token.TokenKind.TheVariants as kind
 use Rattle.pdl_syntax_tokens.specs.Cursor.{next, first_kind, first_span, first_name}
 use Rattle.pdl_syntax_cursor.specs.Looks.{is_mark, begins_place}
 use Rattle.pdl_syntax_tokens.specs.Tokens.{Row}
-use Rattle.pdl_syntax_grammar.specs.Grammar.{across, prepend, pace_kind}
+use Rattle.pdl_syntax_grammar.specs.Grammar.{across, prepend}
 pub use Rattle.pdl_syntax_grammar.specs.ReadingExprs.{Outcome, Parser, and_then, ◌>>=◌, pure, refuse, name_by, number_by, first_literal, literal_by, access_by, goes_on, listed_by, slice_of, after_name, bracketed_expr, sized_expr, pair, Inner, inverted, catenated, compared, extended, sign_extended, operand_by, op_by, op_in, joined_expr, arms, choose, nothing_inside, expr, args}
 unfoldable pub use Rattle.pdl_syntax_grammar.specs.ReadingExprs.{
   take,
@@ -291,33 +291,46 @@ unfoldable pub lock : Parser (Option LockDecl)
 lock = λ ts. cond (is_mark mark.Lock (first_kind ts)) (lock_clause (next ts)) (Ok (None, ts))
 
 -- by what the first token is
-abbrev pub pace_by : Option TokenKind → Parser Bool
-pace_by (Some (kind.Mark mark.Comb)) = λ ts. Ok (false, next ts)
-pace_by (Some (kind.Mark mark.Delayed)) = λ ts. Ok (true, next ts)
+abbrev pub pace_by : Option TokenKind → Parser MemKind
+pace_by (Some (kind.Mark mark.Comb)) = λ ts. Ok (Comb, next ts)
+pace_by (Some (kind.Mark mark.Delayed)) = λ ts. Ok (Delayed, next ts)
+pace_by (Some (kind.Mark mark.Advisory)) = λ ts. Ok (Advisory, next ts)
 pace_by _ = refuse
 
--- whether a memory answers in a later cycle
-unfoldable pub pace : Parser Bool
+-- the kind of a memory
+unfoldable pub pace : Parser MemKind
 pace = λ ts. pace_by (first_kind ts) ts
 
+-- what stands after the kind of a memory: a lock or none; an advisory one has none
+abbrev pub lock_after : MemKind → Parser (Option LockDecl)
+lock_after Comb = lock
+lock_after Delayed = lock
+lock_after Advisory = pure None
+
+-- the kind of a memory, and its lock or none
+unfoldable pub keeping : Parser (MemKind × Option LockDecl)
+keeping = do
+  d ← pace
+  l ← lock_after d
+  pure (d, l)
+
 -- what stands after the name of a memory
-unfoldable pub shape : Parser (Number × Number × Bool × Option LockDecl)
+unfoldable pub shape : Parser (Number × Number × MemKind × Option LockDecl)
 shape = do
   _ ← take mark.Colon
   w ← width
   _ ← take mark.OpenSquare
   n ← number
   _ ← take mark.CloseSquare
-  d ← pace
-  l ← lock
-  pure (w, n, d, l)
+  k ← keeping
+  pure (w, n, k.0, k.1)
 
 -- a memory
 unfoldable pub mem : Parser Mem
 mem = do
   x ← name
   s ← shape
-  pure (record { name = x; width = s.0; depth = s.1; kind = pace_kind s.2; lock = s.3 })
+  pure (record { name = x; width = s.0; depth = s.1; kind = s.2; lock = s.3 })
 
 -- the start clause
 unfoldable pub start : ℕ → Parser Start

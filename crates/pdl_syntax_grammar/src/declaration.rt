@@ -1,12 +1,11 @@
 // Parameters and memories.
-ghost use Rattle.std.specs.Prelude.{◌≡◌, map};
-ghost use Rattle.pdl_syntax_grammar.specs.Read.{Reads, shape_view};
+ghost use Rattle.std.specs.Prelude.{map};
+ghost use Rattle.pdl_syntax_grammar.specs.Read.{Reads, keeping_view, shape_view};
 ghost use Rattle.pdl_syntax_grammar.specs.Reading as spec;
-ghost use Rattle.pdl_syntax_tree.specs.View.{number_view, param_view, mem_kind_view, mem_view, maybe_lock_view};
-ghost use Rattle.pdl_syntax_grammar.specs.Grammar.{pace_kind};
+ghost use Rattle.pdl_syntax_tree.specs.View.{number_view, param_view, mem_view, maybe_lock_view};
 ghost use Rattle.pdl_syntax_tokens.specs.declared.token.Mark.TheVariants as mark;
 
-use crate::item::MemShape;
+use crate::item::{Keeping, MemShape};
 use crate::stop::Stop;
 use crate::words::{goes_on, lock_kind, name, number, pace, take};
 use pdl_kit::Seq;
@@ -85,6 +84,19 @@ fn lock(tokens: &mut Cursor<'_>) -> Result<Option<LockDecl>, Stop>
     }
 }
 
+// The kind of a memory, and its lock or none; an advisory one has none.
+#[tactic(auto, unfolding(crate::specs::Reading::keeping))]
+fn keeping(tokens: &mut Cursor<'_>) -> Result<Keeping, Stop>
+    ensures { Reads keeping_view (spec.keeping tokens.old) result tokens.new }
+{
+    let kind = pace(tokens)?;
+    let lock = match kind {
+        MemKind::Advisory => None,
+        _ => lock(tokens)?,
+    };
+    Ok(Keeping { kind, lock })
+}
+
 // What stands after the name of a memory.
 #[tactic(auto, unfolding(crate::specs::Reading::shape))]
 fn shape(tokens: &mut Cursor<'_>) -> Result<MemShape, Stop>
@@ -95,25 +107,13 @@ fn shape(tokens: &mut Cursor<'_>) -> Result<MemShape, Stop>
     take(tokens, Mark::OpenSquare)?;
     let depth = number(tokens)?;
     take(tokens, Mark::CloseSquare)?;
-    let delayed = pace(tokens)?;
-    let lock = lock(tokens)?;
+    let keeping = keeping(tokens)?;
     Ok(MemShape {
         width,
         depth,
-        delayed,
-        lock,
+        kind: keeping.kind,
+        lock: keeping.lock,
     })
-}
-
-// The kind of a memory by whether it answers in a later cycle.
-fn kind_of(delayed: bool) -> MemKind
-    ensures { mem_kind_view result ≡ pace_kind delayed }
-{
-    if delayed {
-        MemKind::Delayed
-    } else {
-        MemKind::Comb
-    }
 }
 
 #[tactic(auto, unfolding(crate::specs::Reading::mem))]
@@ -126,7 +126,7 @@ fn mem(alloc: Global, tokens: &mut Cursor<'_>) -> Result<Mem, Stop>
         name,
         width: shape.width,
         depth: shape.depth,
-        kind: kind_of(shape.delayed),
+        kind: shape.kind,
         lock: shape.lock,
     })
 }

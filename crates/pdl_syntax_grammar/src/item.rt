@@ -1,7 +1,7 @@
 // Parts of expressions and statements.
 use pdl_kit::{Boxed, Seq};
 use pdl_syntax_tree::{
-    AccessKind, Expr, Ident, Location, LockDecl, Mem, Number, Param, Span, Start, Stmt,
+    AccessKind, Expr, Ident, Location, LockDecl, Mem, MemKind, Number, Param, Span, Start, Stmt,
 };
 
 /// An item of the grammar: a statement, or two.
@@ -83,12 +83,19 @@ pub struct Sized {
     pub width: Number,
 }
 
-/// What stands after the name of a memory: its words, how many there are, whether it answers in a later cycle, and its lock or none.
+/// The kind of a memory, and its lock or none.
+#[derive(Clone, Copy)]
+pub struct Keeping {
+    pub kind: MemKind,
+    pub lock: Option<LockDecl>,
+}
+
+/// What stands after the name of a memory: its words, how many there are, its kind, and its lock or none.
 #[derive(Clone, Copy)]
 pub struct MemShape {
     pub width: Number,
     pub depth: Number,
-    pub delayed: bool,
+    pub kind: MemKind,
     pub lock: Option<LockDecl>,
 }
 

@@ -3,12 +3,12 @@ ghost use Rattle.std.specs.Prelude.{◌≡◌};
 ghost use Rattle.pdl_syntax_tokens.specs.Cursor.{first_kind};
 ghost use Rattle.pdl_syntax_grammar.specs.Read.{Reads};
 ghost use Rattle.pdl_syntax_grammar.specs.Reading as spec;
-ghost use Rattle.pdl_syntax_tree.specs.View.{span_view, ident_view, number_view, literal_view, kind_view, lock_kind_view, location_view};
+ghost use Rattle.pdl_syntax_tree.specs.View.{span_view, ident_view, number_view, literal_view, kind_view, lock_kind_view, mem_kind_view, location_view};
 
 use crate::stop::Stop;
 use pdl_syntax_cursor::Cursor;
 use pdl_syntax_tokens::{Mark, TokenKind};
-use pdl_syntax_tree::{AccessKind, Ident, Literal, Location, LockKind, Number, Span};
+use pdl_syntax_tree::{AccessKind, Ident, Literal, Location, LockKind, MemKind, Number, Span};
 use std::alloc::Global;
 
 /// Takes a keyword or a symbol, and tells where it stands.
@@ -110,19 +110,23 @@ pub fn lock_kind(tokens: &mut Cursor<'_>) -> Result<LockKind, Stop>
     }
 }
 
-/// Takes `comb` or `delayed`: whether a memory answers in a later cycle.
+/// Takes the kind of a memory: `comb`, `delayed` or `advisory`.
 #[tactic(auto, unfolding(crate::specs::Reading::pace))]
-pub fn pace(tokens: &mut Cursor<'_>) -> Result<bool, Stop>
-    ensures { Reads (λ delayed. delayed) (spec.pace tokens.old) result tokens.new }
+pub fn pace(tokens: &mut Cursor<'_>) -> Result<MemKind, Stop>
+    ensures { Reads mem_kind_view (spec.pace tokens.old) result tokens.new }
 {
     match tokens.kind() {
         Some(TokenKind::Mark(Mark::Comb)) => {
             tokens.skip();
-            Ok(false)
+            Ok(MemKind::Comb)
         }
         Some(TokenKind::Mark(Mark::Delayed)) => {
             tokens.skip();
-            Ok(true)
+            Ok(MemKind::Delayed)
+        }
+        Some(TokenKind::Mark(Mark::Advisory)) => {
+            tokens.skip();
+            Ok(MemKind::Advisory)
         }
         _ => Err(Stop::Misplaced),
     }

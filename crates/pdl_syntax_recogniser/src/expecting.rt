@@ -49,7 +49,6 @@ pub fn first_of(stack: &mut Stack, list: Listing) -> Result<bool, NoMemory>
         }
         Listing::Mems => {
             stack.push(&[
-                Symbol::Locked,
                 Symbol::Pace,
                 Symbol::Mark(Mark::CloseSquare),
                 Symbol::Number,
@@ -203,6 +202,18 @@ fn expect_lock(stack: &mut Stack, kind: TokenKind) -> Result<bool, NoMemory>
             )
         }
         _ => more(stack, Listing::Mems, kind),
+    }
+}
+
+// The kind of a memory.
+fn pace(stack: &mut Stack, kind: TokenKind) -> Result<bool, NoMemory>
+    ensures { Expects (spec.act_pace kind) result stack.old stack.new }
+{
+    match kind {
+        TokenKind::Mark(Mark::Comb) => expect(stack, &[Symbol::Locked]),
+        TokenKind::Mark(Mark::Delayed) => expect(stack, &[Symbol::Locked]),
+        TokenKind::Mark(Mark::Advisory) => expect(stack, &[Symbol::More(Listing::Mems)]),
+        _ => Ok(false),
     }
 }
 
@@ -397,13 +408,6 @@ fn is_access(kind: TokenKind) -> bool
     matches!(kind, TokenKind::Mark(Mark::R | Mark::W))
 }
 
-// `comb` or `delayed`.
-fn is_pace(kind: TokenKind) -> bool
-    ensures { spec.if_pace kind ≡ cond result (Some []) None }
-{
-    matches!(kind, TokenKind::Mark(Mark::Comb | Mark::Delayed))
-}
-
 fn is_lock_kind(kind: TokenKind) -> bool
     ensures { spec.if_lock_kind kind ≡ cond result (Some []) None }
 {
@@ -435,7 +439,7 @@ pub fn take_token(stack: &mut Stack, symbol: Symbol, kind: TokenKind) -> Result<
         Symbol::Number => Ok(is_number(kind)),
         Symbol::Literal => Ok(is_literal(kind)),
         Symbol::Access => Ok(is_access(kind)),
-        Symbol::Pace => Ok(is_pace(kind)),
+        Symbol::Pace => pace(stack, kind),
         Symbol::LockKind => Ok(is_lock_kind(kind)),
     }
 }

@@ -30,7 +30,7 @@ pub enum Symbol {
     Literal,
     /// `R` or `W`.
     Access,
-    /// `comb` or `delayed`.
+    /// `comb`, `delayed` or `advisory`, and then as after a memory.
     Pace,
     LockKind,
     /// An expression, and what closes it.

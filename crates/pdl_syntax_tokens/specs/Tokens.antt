@@ -61,7 +61,7 @@ spelt t m = record { text = t; mark = m }
 -- how the keywords are written
 abbrev pub keywords : List Spelling
 keywords = spelt (codes "pipe") mark.Pipe ∷ spelt (codes "start") mark.Start ∷ spelt (codes "uint") mark.Uint
-    ∷ spelt (codes "comb") mark.Comb ∷ spelt (codes "delayed") mark.Delayed ∷ spelt (codes "lock") mark.Lock
+    ∷ spelt (codes "comb") mark.Comb ∷ spelt (codes "delayed") mark.Delayed ∷ spelt (codes "advisory") mark.Advisory ∷ spelt (codes "lock") mark.Lock
     ∷ spelt (codes "queue") mark.Queue ∷ spelt (codes "bypass") mark.Bypass ∷ spelt (codes "rename") mark.Rename
     ∷ spelt (codes "if") mark.If ∷ spelt (codes "else") mark.Else ∷ spelt (codes "call") mark.Call
     ∷ spelt (codes "spec_call") mark.SpecCall ∷ spelt (codes "verify") mark.Verify ∷ spelt (codes "update") mark.Update

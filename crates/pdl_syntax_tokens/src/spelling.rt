@@ -14,10 +14,16 @@ pub struct Spelling {
 
 // The keywords, in a table for each letter with which some begin.
 
-const A_WORDS: [Spelling; 1] = [Spelling {
-    text: b"acquire",
-    mark: Mark::Acquire,
-}];
+const A_WORDS: [Spelling; 2] = [
+    Spelling {
+        text: b"advisory",
+        mark: Mark::Advisory,
+    },
+    Spelling {
+        text: b"acquire",
+        mark: Mark::Acquire,
+    },
+];
 
 const B_WORDS: [Spelling; 2] = [
     Spelling {

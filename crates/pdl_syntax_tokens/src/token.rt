@@ -9,6 +9,7 @@ pub enum Mark {
     Uint,
     Comb,
     Delayed,
+    Advisory,
     Lock,
     Queue,
     Bypass,

@@ -96,6 +96,7 @@ fn begun(alloc: Global, b: &Builder, bits: Bits, pipe: &FlatPipe) -> WalkNets
         lettings: Seq::new(alloc),
         births: Vec::new(alloc),
         asks: Seq::new(alloc),
+        advises: Seq::new(alloc),
         guess: Seq::new(alloc),
         fails: bits.zero,
         barrier: bits.zero,

@@ -61,6 +61,33 @@ always @(posedge clk) r0 <= rst ? 4'ha : n5;
 endmodule
 ";
 
+// An array without a lock with two write ports, the later of which holds where both write a word, as it is written.
+const TABLE: &[u8] =
+    b"module pdl_t(input wire clk, input wire [0:0] rst, output wire [0:0] v_0, output wire [0:0] g_0, output wire [0:0] ended, output wire [0:0] squash);
+reg [1:0] r0;
+reg [7:0] a_t [0:3];
+wire [0:0] n0;
+assign n0 = 1'h1;
+wire [1:0] n1;
+assign n1 = 2'h3;
+wire [1:0] n2;
+assign n2 = r0 + n1;
+wire [7:0] n3;
+assign n3 = a_t[r0];
+wire [0:0] n4;
+assign n4 = n3[7:7];
+assign v_0 = n0;
+assign g_0 = n4;
+assign ended = n0;
+assign squash = n4;
+always @(posedge clk) r0 <= rst ? 2'h3 : n2;
+always @(posedge clk) begin
+if (n0) a_t[n2] <= n3;
+if (n4) a_t[r0] <= n3;
+end
+endmodule
+";
+
 // The same as a text may be written: its names out of order, several declarations on a line, and a comment.
 const LOOSE: &[u8] =
     b"module pdl_p(input wire clk, input wire [0:0] rst, output wire [0:0] v_0, output wire [0:0] g_0,
@@ -99,4 +126,5 @@ fn gives_texts(rt: HostRuntime) {
     assert!(rt; gives(rt.alloc(), COUNTS, COUNTS));
     assert!(rt; gives(rt.alloc(), LOOSE, COUNTS));
     assert!(rt; gives(rt.alloc(), CELLS, CELLS));
+    assert!(rt; gives(rt.alloc(), TABLE, TABLE));
 }

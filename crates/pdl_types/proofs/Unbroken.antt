@@ -4,7 +4,7 @@ use Rattle.pdl_kit.specs.declared.rule.Rule.{Rule}
 use Rattle.pdl_kit.specs.declared.rule.Rule.TheVariants.{Z2, Z3, Z4, Z5, Z6, Z7, N1, N2, N3, W1, W2, W3, W4, W5, W6}
 use Rattle.pdl_semantics.specs.Tree.{Pipe}
 use Rattle.pdl_rules.specs.Places.{Place, places}
-use Rattle.pdl_rules.specs.Refusal.{breaks_rule, is_refused, limits, broken_line, first_broken}
+use Rattle.pdl_rules.specs.Refusal.{breaks_rule, limits, broken_line, first_broken}
 use Rattle.pdl_rules_names.specs.Order.{name_rules}
 use Rattle.pdl_rules_widths.specs.Order.{width_rules}
 use Rattle.pdl_word.proofs.Bools.{none_given}
@@ -41,8 +41,8 @@ keeps_widths p z n w =
 
 -- at the first of these places, and after it
 pub here : (r : Rule) (p : Pipe) (before : List Place) (x : Place) (xs : List Place)
-    → broken_line r p before (x ∷ xs) ≡ None → is_refused r p before x ≡ false
-here r p before x xs e = (none_given (is_refused r p before x) _ (broken_line r p (before ++ x ∷ []) xs) e).0
+    → broken_line r p before (x ∷ xs) ≡ None → breaks_rule r p before x ≡ false
+here r p before x xs e = (none_given (breaks_rule r p before x) _ (broken_line r p (before ++ x ∷ []) xs) e).0
 
 -- places that keep the rules that widths rest on keep them after the first of them is passed
 pub after : (p : Pipe) (before : List Place) (x : Place) (xs : List Place) → KeepsWidths p before (x ∷ xs)

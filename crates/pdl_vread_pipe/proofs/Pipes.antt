@@ -8,7 +8,6 @@ use Rattle.std.proofs.lemmas.List.Sums.{AllPass-from_list_all, list_all-from_All
 use Rattle.std.proofs.lemmas.List.Folds.{Any-from_list_any, list_any-from_Any, list_any_none}
 use Rattle.pdl_kit.specs.declared.mem_info.MemInfo.{MemInfo}
 use Rattle.pdl_net.specs.declared.Array.{Array}
-use Rattle.pdl_net.specs.declared.WritePort.{WritePort}
 use Rattle.pdl_net.specs.declared.Netlist.{Netlist}
 use Rattle.pdl_net.specs.Circuit.{no_array}
 use Rattle.pdl_net.specs.Pipe.{Head, PortMem, reply_ports, stage_ports, commit_ports, request_ports, pipe_ports, IsAddress, IsPipeArray, IsKept, IsPipe, mems_of, delayed_info, comb_info}
@@ -150,27 +149,23 @@ is_lock : (a : Array) (m : PortMem)
 is_lock a m w d = cond_both (bytes_eq m.name a.name) (eqb a.width m.width && spec.has_depth m.bits a.depth) true (λ b. b ≡ true)
     (λ e. let n = bytes_same m.name a.name e in and_from _ _ (eq-eqb a.width m.width (w n)) (is_depth m.bits a.depth (d n))) (λ e. refl)
 
-unwritten_is : (ws : List WritePort) → spec.is_unwritten ws ≡ true → ws ≡ []
-unwritten_is [] h = refl
-unwritten_is (w ∷ ws) h = absurd (true≢false (sym h))
-
 unlocked_is : (a : Array) (locked : List PortMem)
-    → (list_any (spec.is_named a.name) locked || (leb a.depth 65536 && spec.is_unwritten a.writes)) ≡ true
-    → All (λ m. m.name ≢ a.name) locked → (a.depth ≤ 65536) × (a.writes ≡ [])
-unlocked_is a locked h none = go (or_cases (list_any (spec.is_named a.name) locked) (leb a.depth 65536 && spec.is_unwritten a.writes) h)
+    → (list_any (spec.is_named a.name) locked || leb a.depth 65536) ≡ true
+    → All (λ m. m.name ≢ a.name) locked → a.depth ≤ 65536
+unlocked_is a locked h none = go (or_cases (list_any (spec.is_named a.name) locked) (leb a.depth 65536) h)
   where
-    go : (list_any (spec.is_named a.name) locked ≡ true) ⊎ (leb a.depth 65536 && spec.is_unwritten a.writes ≡ true) → (a.depth ≤ 65536) × (a.writes ≡ [])
+    go : (list_any (spec.is_named a.name) locked ≡ true) ⊎ (leb a.depth 65536 ≡ true) → a.depth ≤ 65536
     go (inl e) = absurd (unnamed_clash a.name locked e none)
-    go (inr e) = let p = and_parts (leb a.depth 65536) (spec.is_unwritten a.writes) e in (leb-true a.depth 65536 p.0, unwritten_is a.writes p.1)
+    go (inr e) = leb-true a.depth 65536 e
 
 is_unlocked : (a : Array) (locked : List PortMem)
-    → (All (λ m. m.name ≢ a.name) locked → (a.depth ≤ 65536) × (a.writes ≡ []))
-    → (list_any (spec.is_named a.name) locked || (leb a.depth 65536 && spec.is_unwritten a.writes)) ≡ true
+    → (All (λ m. m.name ≢ a.name) locked → a.depth ≤ 65536)
+    → (list_any (spec.is_named a.name) locked || leb a.depth 65536) ≡ true
 is_unlocked a locked h = go (list_any (spec.is_named a.name) locked) refl
   where
-    go : (b : Bool) → list_any (spec.is_named a.name) locked ≡ b → (b || (leb a.depth 65536 && spec.is_unwritten a.writes)) ≡ true
+    go : (b : Bool) → list_any (spec.is_named a.name) locked ≡ b → (b || leb a.depth 65536) ≡ true
     go true e = refl
-    go false e = let p = h (none_named a.name locked e) in and_from _ _ (le-leb a.depth 65536 p.0) (ap spec.is_unwritten p.1)
+    go false e = le-leb a.depth 65536 (h (none_named a.name locked e))
 
 array_is : (delayed locked : List PortMem) (a : Array) → spec.is_array delayed locked a ≡ true → IsPipeArray delayed locked a
 array_is delayed locked a h =

@@ -3,7 +3,6 @@ use Rattle.std.specs.Prelude.{◌≤◌, ◌==◌, ℕ, ◌+◌, ◌*◌, ◌^�
 use Rattle.std.specs.List.{list_any, list_all}
 use Rattle.pdl_kit.specs.declared.mem_info.MemInfo.{MemInfo}
 use Rattle.pdl_net.specs.declared.Array.{Array}
-use Rattle.pdl_net.specs.declared.WritePort.{WritePort}
 use Rattle.pdl_net.specs.declared.Netlist.{Netlist}
 use Rattle.pdl_net.specs.Pipe.{Head, PortMem, output, pipe_ports, mems_of}
 use Rattle.pdl_vread_pipe.specs.declared.shape.Shape.{Shape}
@@ -46,16 +45,11 @@ has_depth bits depth = depth == 2 ^ bits || depth == 2 * 2 ^ bits
 abbrev pub fits_lock : Array → PortMem → Bool
 fits_lock a m = cond (bytes_eq m.name a.name) (a.width == m.width && has_depth m.bits a.depth) true
 
--- an array has no write ports
-abbrev pub is_unwritten : List WritePort → Bool
-is_unwritten [] = true
-is_unwritten (w ∷ ws) = false
-
 -- an array is one of a memory that isn't delayed
 abbrev pub is_array : List PortMem → List PortMem → Array → Bool
 is_array delayed locked a =
     not (list_any (is_named a.name) delayed)
-    && (list_all (fits_lock a) locked && (list_any (is_named a.name) locked || (nat_le a.depth 65536 && is_unwritten a.writes)))
+    && (list_all (fits_lock a) locked && (list_any (is_named a.name) locked || nat_le a.depth 65536))
 
 -- a locked memory has the name of a delayed one or of an array
 abbrev pub is_kept : List PortMem → List Array → PortMem → Bool

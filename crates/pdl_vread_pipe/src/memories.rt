@@ -113,7 +113,7 @@ fn is_array(delayed: &[PortMem], locked: &[PortMem], array: &Array) -> bool
 {
     !has_name(delayed, &array.name)
         && fits_locks(array, locked)
-        && (has_name(locked, &array.name) || (array.depth <= 65_536 && array.writes.is_empty()))
+        && (has_name(locked, &array.name) || array.depth <= 65_536)
 }
 
 fn are_arrays(shape: &Shape, arrays: &[Array]) -> bool

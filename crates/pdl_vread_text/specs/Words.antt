@@ -59,21 +59,21 @@ is_name_byte c = is_lower c || is_digit c || c == 95
 abbrev pub is_statement_keyword : List ℕ → Bool
 is_statement_keyword t =
     bytes_eq t (codes "if") || bytes_eq t (codes "else") || bytes_eq t (codes "call") || bytes_eq t (codes "spec_call") || bytes_eq t (codes "verify")
-    || bytes_eq t (codes "spec_check") || bytes_eq t (codes "spec_barrier") || bytes_eq t (codes "reserve") || bytes_eq t (codes "acquire")
-    || bytes_eq t (codes "block") || bytes_eq t (codes "release") || bytes_eq t (codes "cat")
+    || bytes_eq t (codes "update") || bytes_eq t (codes "spec_check") || bytes_eq t (codes "spec_barrier") || bytes_eq t (codes "reserve")
+    || bytes_eq t (codes "acquire") || bytes_eq t (codes "block") || bytes_eq t (codes "release") || bytes_eq t (codes "cat")
     || bytes_eq t (codes "zext") || bytes_eq t (codes "sext") || bytes_eq t (codes "lts")
 
 -- the keywords for branches, calls and speculation
 abbrev pub is_flow_keyword : List ℕ → Bool
 is_flow_keyword t =
     bytes_eq t (codes "if") || bytes_eq t (codes "else") || bytes_eq t (codes "call") || bytes_eq t (codes "spec_call") || bytes_eq t (codes "verify")
-    || bytes_eq t (codes "spec_check") || bytes_eq t (codes "spec_barrier")
+    || bytes_eq t (codes "update") || bytes_eq t (codes "spec_check") || bytes_eq t (codes "spec_barrier")
 
 -- a keyword of PDL's pipes, memories and locks
 abbrev pub is_declaration_keyword : List ℕ → Bool
 is_declaration_keyword t =
     bytes_eq t (codes "pipe") || bytes_eq t (codes "start") || bytes_eq t (codes "uint") || bytes_eq t (codes "comb") || bytes_eq t (codes "delayed")
-    || bytes_eq t (codes "lock") || bytes_eq t (codes "queue") || bytes_eq t (codes "bypass") || bytes_eq t (codes "rename")
+    || bytes_eq t (codes "advisory") || bytes_eq t (codes "lock") || bytes_eq t (codes "queue") || bytes_eq t (codes "bypass") || bytes_eq t (codes "rename")
 
 -- a lower letter, and then letters, digits and `_`, at most 32 characters together
 abbrev pub has_name_form : List ℕ → Bool

@@ -35,6 +35,7 @@ fn is_flow_keyword(text: &[u8]) -> bool
         || is(text, b"call")
         || is(text, b"spec_call")
         || is(text, b"verify")
+        || is(text, b"update")
         || is(text, b"spec_check")
         || is(text, b"spec_barrier")
 }
@@ -63,6 +64,7 @@ fn is_declaration_keyword(text: &[u8]) -> bool
         || is(text, b"uint")
         || is(text, b"comb")
         || is(text, b"delayed")
+        || is(text, b"advisory")
         || is(text, b"lock")
         || is(text, b"queue")
         || is(text, b"bypass")

@@ -7,7 +7,7 @@ syntax keyword pdlTodo contained TODO FIXME
 syntax match pdlComment "//.*$" contains=pdlTodo
 syntax keyword pdlStructure pipe start
 syntax keyword pdlType uint
-syntax keyword pdlStorage comb delayed lock
+syntax keyword pdlStorage comb delayed advisory lock
 syntax keyword pdlLock queue bypass rename
 syntax keyword pdlConditional if else
 syntax keyword pdlThread call spec_call verify update spec_check spec_barrier

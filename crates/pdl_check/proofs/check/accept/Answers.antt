@@ -5,11 +5,10 @@ use Rattle.pdl_semantics.specs.Flatten.{flat}
 use Rattle.pdl_syntax_tree.specs.declared.tree.Pipe as r_pipe
 use Rattle.pdl_syntax_tree.specs.View.{pipe_view}
 use Rattle.pdl_rules.specs.Refusal.{KeepsRules, limits, after_limits}
-use Rattle.pdl_rules.specs.Unbuilt.{IsBuilt}
 use Rattle.pdl_locks.specs.Plan.{plan_of}
 use Rattle.pdl_spec.specs.Plan.{spec_plan}
 use Rattle.pdl_source_paths.specs.Source.{is_source, is_named}
-use Rattle.pdl_rules.proofs.Unbroken.{keeps_accepted, built_accepted}
+use Rattle.pdl_rules.proofs.Unbroken.{keeps_unbroken}
 use Rattle.pdl_rules_names.specs.Order.{name_rules}
 use Rattle.pdl_rules_widths.specs.Order.{width_rules}
 use Rattle.pdl_rules_judge.specs.OrderedRules.{after_names, after_widths}
@@ -46,8 +45,7 @@ invariant_of-result c =
     record {
       source = at (λ p. IsTrue (is_source p)) c.requires.source;
       letters = at (λ p. IsTrue (is_named p)) c.requires.letters;
-      kept = at KeepsRules (keeps_accepted (pipe_view c.args.pipe) c.requires.kept);
-      built = at IsBuilt (built_accepted (pipe_view c.args.pipe) c.requires.kept);
+      kept = at KeepsRules (keeps_unbroken (pipe_view c.args.pipe) c.requires.kept);
       guarded = at (λ p. c.args.found.guards ≡ guards (places p)) c.requires.found.guards;
       told = at (λ p. c.in_ok-made.made.mems ≡ infos_of p.mems) c.in_ok-made.ensures.told;
       planned = at (λ p. c.args.found.plans.locks ≡ plan_of p) c.requires.found.locks;

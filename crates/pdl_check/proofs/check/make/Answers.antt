@@ -2,7 +2,7 @@ use Rattle.std.proofs.Common.{ap, ◌∙◌, map, subst, sym}
 use Rattle.pdl_semantics.specs.Flatten.{flat}
 use Rattle.pdl_syntax_tree.specs.View.{pipe_view, mem_view}
 use Rattle.pdl_rules.specs.Memories.{infos_of}
-use Rattle.pdl_rules.proofs.Unbroken.{keeps_accepted}
+use Rattle.pdl_rules.proofs.Unbroken.{keeps_unbroken}
 use Rattle.pdl_form_lower.specs.Sized.{AreSizedMems}
 use Rattle.pdl_form_lower.specs.Lowerable.{IsLowerablePipe}
 use Rattle.pdl_form_lower.proofs.PipeSizes.{keeps_lowered}
@@ -12,12 +12,12 @@ use Rattle.pdl_check.proofs.check.make.Goals as goal
 
 pub infos_of-requires : goal.infos_of-requires
 infos_of-requires c =
-    let low = keeps_lowered (pipe_view c.args.pipe.now) (keeps_accepted (pipe_view c.args.pipe.now) c.requires.kept) in
+    let low = keeps_lowered (pipe_view c.args.pipe.now) (keeps_unbroken (pipe_view c.args.pipe.now) c.requires.kept) in
     subst (λ ms. AreSizedMems (map mem_view ms)) (sym c.as_slice.ensures) low.0.mems
 
 pub lower-requires : goal.lower-requires
 lower-requires c =
-    let low = keeps_lowered (pipe_view c.args.pipe.now) (keeps_accepted (pipe_view c.args.pipe.now) c.requires.kept) in
+    let low = keeps_lowered (pipe_view c.args.pipe.now) (keeps_unbroken (pipe_view c.args.pipe.now) c.requires.kept) in
     record {
       lowerable = subst (λ us. IsLowerablePipe us (pipe_view c.args.pipe.now)) (sym c.requires.variables) low.0;
       few = low.1;

@@ -13,7 +13,7 @@ use Rattle.pdl_pipe.proofs.netlist.compile_with.Goals as goal
 pub emit_all-requires-clause-can : goal.emit_all-requires-clause-can
 emit_all-requires-clause-can g c =
     let a = c.args.accepted.now in
-    subst CanEmit (sym c.flat.ensures) (can_emit (pipe_view a.typed.pipe) a.kept a.built a.source a.letters)
+    subst CanEmit (sym c.flat.ensures) (can_emit (pipe_view a.typed.pipe) a.kept a.source a.letters)
 
 pub emit_all-requires-clause-suited : goal.emit_all-requires-clause-suited
 emit_all-requires-clause-suited g c =
@@ -29,7 +29,7 @@ returns-clause-follows g c =
     let name : n.name ≡ p.name.name = search rules in
     follows_made l g.met.L.LockModule.stays p n
     (emitted_as l c.emit_all.new.b (circuit_of n) _ (form_of p) (sym done.value) c.flat.ensures c.in_ok-emit_all.ensures)
-    name (mems_as p.mems _ _ _ done.mems c.in_ok-mems.ensures c.mems.ensures) done.well a.kept a.built a.source a.letters
+    name (mems_as p.mems _ _ _ done.mems c.in_ok-mems.ensures c.mems.ensures) done.well a.kept a.source a.letters
 
 pub returns-clause-locks : goal.returns-clause-locks
 returns-clause-locks g c =
@@ -41,4 +41,4 @@ returns-clause-locks g c =
     let name : n.name ≡ p.name.name = search rules in
     locks_made l g.met.L.LockModule.stays p n
     (emitted_as l c.emit_all.new.b (circuit_of n) _ (form_of p) (sym done.value) c.flat.ensures c.in_ok-emit_all.ensures)
-    name (mems_as p.mems _ _ _ done.mems c.in_ok-mems.ensures c.mems.ensures) done.well a.kept a.built a.source a.letters
+    name (mems_as p.mems _ _ _ done.mems c.in_ok-mems.ensures c.mems.ensures) done.well a.kept a.source a.letters

@@ -1,4 +1,3 @@
-use Rattle.pdl_net.specs.Meaning.{signal}
 use Rattle.pdl_net.proofs.KeptWidths.{width_meant}
 use Rattle.pdl_law_parts.specs.declared.Mark.TheVariants.{Late}
 use Rattle.pdl_pipe_walk.specs.Parts.{parts_in}

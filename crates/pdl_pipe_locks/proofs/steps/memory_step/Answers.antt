@@ -1,5 +1,5 @@
 use Rattle.std.proofs.Common.{Bool, false, List, length, sym, ap, ◌∙◌, arith, subst}
-use Rattle.std.specs.Prelude.{slice_index_or}
+use Rattle.std.specs.Prelude.{slice_index_or, is_some}
 use Rattle.pdl_form.specs.FormView.{form}
 use Rattle.pdl_semantics.specs.Stages.{mem_at}
 use Rattle.pdl_net.specs.Circuit.{HasArray}
@@ -39,7 +39,8 @@ pub lock_step-requires-clause-empty : goal.lock_step-requires-clause-empty
 lock_step-requires-clause-empty g c =
     let p = (form c.args.round.now.pipe.now).pipe in
     let it = c.requires.locked.locks c.args.m c.in-Some.x c.requires.low (sym c.lock_at.ensures ∙ c.in-Some.is) in
-    unwritten_place (mem_at p c.args.m) (comb_place p c.args.m) c.in-Some.x.regs.array it.array c.args.b.now c.requires.unwritten
+    unwritten_place (mem_at p c.args.m) (comb_place p c.args.m) c.in-Some.x.regs.array it.array c.args.b.now
+    (c.requires.unwritten (sym (c.requires.locked.locked c.args.m c.requires.low) ∙ ap is_some (sym c.lock_at.ensures ∙ c.in-Some.is)))
 
 pub lock_step-requires-clause-tail : goal.lock_step-requires-clause-tail
 lock_step-requires-clause-tail g c = omega (arith, c.requires.low, c.requires.locked.count, c.requires.squash.tails.count)

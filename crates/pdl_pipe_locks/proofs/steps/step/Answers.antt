@@ -38,13 +38,13 @@ memory_step-requires-clause-locked g c =
     (form c.args.round.now.pipe.now).pipe c.args.round.now.locks.now c.loop-m.invariant.extends.keeps g.met.L.LockModule.stays c.requires.locked
 
 pub memory_step-requires-clause-unwritten : goal.memory_step-requires-clause-unwritten
-memory_step-requires-clause-unwritten g c once =
+memory_step-requires-clause-unwritten g c held once =
     let L = g.L.LockModule in
     let l : Members g.row.L.Denot = record { placed = L.placed; stands = L.stands; kind = L.kind_of; size = L.size; tickets = L.tickets } in
     let p = (form c.args.round.now.pipe.now).pipe in
     let low : c.loop-m.m < length p.mems = omega (arith, c.loop-m-test.true, mem_count p c.mems-m-end.result.now c.mems-m-end.ensures.mems) in
     still_unwritten l c.args.b.now p c.args.round.now.locks.now c.requires.locked c.requires.lawful c.loop-m.m c.loop-m.b low once c.loop-m.invariant.extends
-    (c.requires.unwritten c.loop-m.m low once)
+    (c.requires.unwritten c.loop-m.m low held once)
 
 pub memory_step-requires-clause-deeds : goal.memory_step-requires-clause-deeds
 memory_step-requires-clause-deeds g c =

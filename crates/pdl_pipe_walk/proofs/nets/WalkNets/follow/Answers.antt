@@ -6,7 +6,6 @@ use Rattle.pdl_net.specs.Meaning.{signal}
 use Rattle.pdl_net.specs.HasWidth.{HasWidth}
 use Rattle.pdl_net.proofs.Keeps.{extends_trans}
 use Rattle.pdl_net.proofs.KeptWidths.{width_kept, width_meant}
-use Rattle.pdl_pipe_exprs.proofs.NetLists.{bits_kept}
 use Rattle.pdl_law_parts.specs.Walk.{reserved_signal}
 use Rattle.pdl_pipe_walk.specs.declared.nets.ReserveNet.{ReserveNet}
 use Rattle.pdl_pipe_walk.specs.Parts.{parts_in, reservation_in}

@@ -1,4 +1,4 @@
-use Rattle.std.proofs.Common.{◌≡◌, ◌∙◌, Bool, List, sym, ap, refl, subst, length}
+use Rattle.std.proofs.Common.{◌≡◌, ◌∙◌, List, sym, ap, refl, subst, length}
 use Rattle.pdl_semantics.specs.Flat as flat
 use Rattle.pdl_net.proofs.Keeps.{extends_keeps}
 use Rattle.pdl_form.specs.FormView.{form}
@@ -11,7 +11,7 @@ use Rattle.pdl_form.specs.declared.form.FlatExpr as r_expr
 use Rattle.pdl_form_types.specs.Stmts.{param_widths, AreArguments}
 use Rattle.pdl_pipe_walk.proofs.Arguments.{arguments_typed, arguments_few, arguments_wide}
 use Rattle.pdl_pipe_walk.proofs.Lists.{on_ok}
-use Rattle.pdl_pipe_walk.proofs.MadeSteps.{nets_of, has_keep, bind_step, read_step, write_step, idle_step, reserve_step, block_step, release_step, call_step}
+use Rattle.pdl_pipe_walk.proofs.MadeSteps.{nets_of, has_keep, bind_step, read_step, write_step, advice_bind_step, advice_read_step, advice_write_step, idle_step, reserve_step, block_step, release_step, call_step}
 use Rattle.pdl_law_parts.specs.Rows.{HasRow}
 use Rattle.pdl_pipe_walk.proofs.MadeGuesses.{ask_step, check_step, barrier_step, guess_step, compare_step}
 use Rattle.pdl_pipe_walk.proofs.RowSteps.{typed_as, guards_as, step_as}
@@ -441,3 +441,122 @@ returns-in-SpecCheck-clause-step g c =
     (check_step a (form c.args.setting.now.pipe.now).pipe (form c.args.setting.now.pipe.now).widths ls tickets gs (parts_in a w)
     (nets_of a (form c.args.setting.now.pipe.now).pipe
     (form c.args.setting.now.pipe.now).widths w c.requires.walk) c.requires.walk.sized refl c.requires.typed.0.0)
+
+pub bind-requires-in-AdviceBind-clause-low : goal.bind-requires-in-AdviceBind-clause-low
+bind-requires-in-AdviceBind-clause-low g c = (typed_as (form c.args.setting.now.pipe.now) c.args.s.now _ c.requires.typed c.in-AdviceBind.is).0
+
+pub bind-requires-in-AdviceBind-clause-typed : goal.bind-requires-in-AdviceBind-clause-typed
+bind-requires-in-AdviceBind-clause-typed g c = (typed_as (form c.args.setting.now.pipe.now) c.args.s.now _ c.requires.typed c.in-AdviceBind.is).1
+
+pub bind-requires-in-AdviceBind-clause-wide : goal.bind-requires-in-AdviceBind-clause-wide
+bind-requires-in-AdviceBind-clause-wide g c = (typed_as (form c.args.setting.now.pipe.now) c.args.s.now _ c.requires.typed c.in-AdviceBind.is).2
+
+pub read-requires-in-AdviceRead-clause-low : goal.read-requires-in-AdviceRead-clause-low
+read-requires-in-AdviceRead-clause-low g c = (typed_as (form c.args.setting.now.pipe.now) c.args.s.now _ c.requires.typed c.in-AdviceRead.is).0
+
+pub read-requires-in-AdviceRead-clause-at : goal.read-requires-in-AdviceRead-clause-at
+read-requires-in-AdviceRead-clause-at g c = (typed_as (form c.args.setting.now.pipe.now) c.args.s.now _ c.requires.typed c.in-AdviceRead.is).1
+
+pub read-requires-in-AdviceRead-clause-wide : goal.read-requires-in-AdviceRead-clause-wide
+read-requires-in-AdviceRead-clause-wide g c = (typed_as (form c.args.setting.now.pipe.now) c.args.s.now _ c.requires.typed c.in-AdviceRead.is).2
+
+pub read-requires-in-AdviceRead-clause-at_once : goal.read-requires-in-AdviceRead-clause-at_once
+read-requires-in-AdviceRead-clause-at_once g c =
+    (subst (λ (o : r_op.Op). HasRow (form c.args.setting.now.pipe.now).pipe (act_view o)) c.in-AdviceRead.is c.requires.typed.1).1
+
+pub advise-requires-clause-at : goal.advise-requires-clause-at
+advise-requires-clause-at g c = (typed_as (form c.args.setting.now.pipe.now) c.args.s.now _ c.requires.typed c.in-AdviceWrite.is).0
+
+pub advise-requires-clause-typed : goal.advise-requires-clause-typed
+advise-requires-clause-typed g c = (typed_as (form c.args.setting.now.pipe.now) c.args.s.now _ c.requires.typed c.in-AdviceWrite.is).1
+
+pub advise-requires-clause-wide : goal.advise-requires-clause-wide
+advise-requires-clause-wide g c = (typed_as (form c.args.setting.now.pipe.now) c.args.s.now _ c.requires.typed c.in-AdviceWrite.is).2
+
+pub advise-requires-clause-unlocked : goal.advise-requires-clause-unlocked
+advise-requires-clause-unlocked g c =
+    subst (λ (o : r_op.Op). HasRow (form c.args.setting.now.pipe.now).pipe (act_view o)) c.in-AdviceWrite.is c.requires.typed.1
+
+pub bind-requires-in-AdviceBind-clause-guards : goal.bind-requires-in-AdviceBind-clause-guards
+bind-requires-in-AdviceBind-clause-guards g c =
+    guards_as (form c.args.setting.now.pipe.now) c.args.s.now c.as_slice-guards.result.now c.requires.typed c.as_slice-guards.ensures
+
+pub read-requires-in-AdviceRead-clause-guards : goal.read-requires-in-AdviceRead-clause-guards
+read-requires-in-AdviceRead-clause-guards g c =
+    guards_as (form c.args.setting.now.pipe.now) c.args.s.now c.as_slice-guards.result.now c.requires.typed c.as_slice-guards.ensures
+
+pub advise-requires-clause-guards : goal.advise-requires-clause-guards
+advise-requires-clause-guards g c =
+    guards_as (form c.args.setting.now.pipe.now) c.args.s.now c.as_slice-guards.result.now c.requires.typed c.as_slice-guards.ensures
+
+pub returns-in-AdviceBind-clause-step : goal.returns-in-AdviceBind-clause-step
+returns-in-AdviceBind-clause-step g c =
+    let a = c.args.b.now in
+    let b = c.bind-in-AdviceBind.new.b in
+    let w = c.args.self.now in
+    let ls = locks_in (members g.L.LockModule) (form c.args.setting.now.pipe.now).pipe a c.args.setting.now.locks.now in
+    let tickets = tickets_in a c.args.setting.now.tickets.now in
+    let gs = guards_view c.as_slice-guards.result.now in
+    let same : gs ≡ guards_view c.args.s.now.guards = ap guards_view c.as_slice-guards.ensures in
+    let guards = subst (λ l. AreGuards (form c.args.setting.now.pipe.now).widths l) (sym same) c.requires.typed.0.0 in
+    let typed = subst (λ (o : r_op.Op). IsTypedOp (form c.args.setting.now.pipe.now) (act_view o)) c.in-AdviceBind.is c.requires.typed.0.1 in
+    let nets =
+    has_keep a b (parts_in a w).vars (extends_keeps a b c.bind-in-AdviceBind.ensures.extends)
+    (nets_of a (form c.args.setting.now.pipe.now).pipe (form c.args.setting.now.pipe.now).widths w c.requires.walk) in
+    let op = sym (ap act_view c.in-AdviceBind.is) in
+    on_ok c.bind-in-AdviceBind.result
+    (λ q. step_as b (form c.args.setting.now.pipe.now).pipe ls tickets gs (guards_view c.args.s.now.guards)
+    (flat.AdviceBind c.in-AdviceBind.x (expr_view c.in-AdviceBind.e)) (act_view c.args.s.now.op)
+    (walk_of (parts_in a w)) (walk_of (parts_in b c.bind-in-AdviceBind.new.self)) same op
+    (advice_bind_step b (form c.args.setting.now.pipe.now).pipe (form c.args.setting.now.pipe.now).widths ls tickets gs
+    (parts_in a w) nets c.requires.walk.sized refl guards c.in-AdviceBind.x (expr_view c.in-AdviceBind.e)
+    (parts_in b c.bind-in-AdviceBind.new.self) typed.0 typed.1 q))
+    c.bind-in-AdviceBind.ensures.parts
+
+pub returns-in-AdviceRead-clause-step : goal.returns-in-AdviceRead-clause-step
+returns-in-AdviceRead-clause-step g c =
+    let a = c.args.b.now in
+    let b = c.read-in-AdviceRead.new.b in
+    let w = c.args.self.now in
+    let ls = locks_in (members g.L.LockModule) (form c.args.setting.now.pipe.now).pipe a c.args.setting.now.locks.now in
+    let tickets = tickets_in a c.args.setting.now.tickets.now in
+    let gs = guards_view c.as_slice-guards.result.now in
+    let same : gs ≡ guards_view c.args.s.now.guards = ap guards_view c.as_slice-guards.ensures in
+    let guards = subst (λ l. AreGuards (form c.args.setting.now.pipe.now).widths l) (sym same) c.requires.typed.0.0 in
+    let typed = subst (λ (o : r_op.Op). IsTypedOp (form c.args.setting.now.pipe.now) (act_view o)) c.in-AdviceRead.is c.requires.typed.0.1 in
+    let nets =
+    has_keep a b (parts_in a w).vars (extends_keeps a b c.read-in-AdviceRead.ensures.extends)
+    (nets_of a (form c.args.setting.now.pipe.now).pipe (form c.args.setting.now.pipe.now).widths w c.requires.walk) in
+    let op = sym (ap act_view c.in-AdviceRead.is) in
+    on_ok c.read-in-AdviceRead.result
+    (λ q. step_as b (form c.args.setting.now.pipe.now).pipe ls tickets gs (guards_view c.args.s.now.guards)
+    (flat.AdviceRead c.in-AdviceRead.x c.in-AdviceRead.m c.in-AdviceRead.a) (act_view c.args.s.now.op)
+    (walk_of (parts_in a w)) (walk_of (parts_in b c.read-in-AdviceRead.new.self)) same op
+    (advice_read_step b (form c.args.setting.now.pipe.now).pipe (form c.args.setting.now.pipe.now).widths ls tickets gs
+    (parts_in a w) nets c.requires.walk.sized refl guards c.in-AdviceRead.x c.in-AdviceRead.m c.in-AdviceRead.a
+    (parts_in b c.read-in-AdviceRead.new.self) refl typed.0 typed.1 q))
+    c.read-in-AdviceRead.ensures.parts
+
+pub returns-in-AdviceWrite-clause-step : goal.returns-in-AdviceWrite-clause-step
+returns-in-AdviceWrite-clause-step g c =
+    let a = c.args.b.now in
+    let b = c.advise.new.b in
+    let w = c.args.self.now in
+    let ls = locks_in (members g.L.LockModule) (form c.args.setting.now.pipe.now).pipe a c.args.setting.now.locks.now in
+    let tickets = tickets_in a c.args.setting.now.tickets.now in
+    let gs = guards_view c.as_slice-guards.result.now in
+    let same : gs ≡ guards_view c.args.s.now.guards = ap guards_view c.as_slice-guards.ensures in
+    let guards = subst (λ l. AreGuards (form c.args.setting.now.pipe.now).widths l) (sym same) c.requires.typed.0.0 in
+    let typed = subst (λ (o : r_op.Op). IsTypedOp (form c.args.setting.now.pipe.now) (act_view o)) c.in-AdviceWrite.is c.requires.typed.0.1 in
+    let nets =
+    has_keep a b (parts_in a w).vars (extends_keeps a b c.advise.ensures.extends)
+    (nets_of a (form c.args.setting.now.pipe.now).pipe (form c.args.setting.now.pipe.now).widths w c.requires.walk) in
+    let op = sym (ap act_view c.in-AdviceWrite.is) in
+    on_ok c.advise.result
+    (λ q. step_as b (form c.args.setting.now.pipe.now).pipe ls tickets gs (guards_view c.args.s.now.guards)
+    (flat.AdviceWrite c.in-AdviceWrite.m c.in-AdviceWrite.a (expr_view c.in-AdviceWrite.e)) (act_view c.args.s.now.op)
+    (walk_of (parts_in a w)) (walk_of (parts_in b c.advise.new.self)) same op
+    (advice_write_step b (form c.args.setting.now.pipe.now).pipe (form c.args.setting.now.pipe.now).widths ls tickets gs
+    (parts_in a w) nets c.requires.walk.sized refl guards c.in-AdviceWrite.m c.in-AdviceWrite.a (expr_view c.in-AdviceWrite.e)
+    (parts_in b c.advise.new.self) typed.1 q))
+    c.advise.ensures.parts

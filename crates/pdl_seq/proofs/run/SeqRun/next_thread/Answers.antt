@@ -1,6 +1,8 @@
 use Rattle.std.proofs.Common.{◌≡◌, ◌≤◌, ◌+◌, ◌-◌, ◌++◌, ◌∙◌, List, refl, sym, ap, ap₂, subst, suc, map, length, arith}
 use Rattle.std.specs.Prelude.{vec_len, vec_capacity}
 use Rattle.pdl_semantics.specs.Flat.{arrays_of}
+use Rattle.pdl_semantics.proofs.Advice.{same_seq}
+use Rattle.pdl_semantics.proofs.Updates.{seq_alike}
 use Rattle.pdl_semantics.specs.Sequential.{Run, run_all, thread}
 use Rattle.pdl_form.specs.FormView.{form}
 use Rattle.pdl_seq.specs.Turns.{Rooms, rooms, commits_view, run_view}
@@ -109,3 +111,10 @@ returns-clause-run c = λ image h.
       memories = arrays_next p start k (k + 1) more arrays args (run_view c.run_turn.new.turn) old.memories old.next ran;
       next = args_next p start k (k + 1) more arrays args (run_view c.run_turn.new.turn) old.memories old.next ran;
     }
+
+pub returns-clause-advice : goal.returns-clause-advice
+returns-clause-advice c image other h differ m =
+    same_seq (form c.self.inside.pipe.now).pipe (arrays_of image) (arrays_of other) c.self.invariant.runnable.sound.advice differ m (c.self.inside.run + 1)
+
+pub returns-clause-updates : goal.returns-clause-updates
+returns-clause-updates c image h m = seq_alike (form c.self.inside.pipe.now).pipe (arrays_of image) m (c.self.inside.run + 1)

@@ -1,10 +1,9 @@
--- A form that has no circuit yet: the rules let such a pipe pass, and it is refused; computed. And one that has its circuit: no rule refuses it.
+-- Short pipes with an update and with an advisory memory, which no rule refuses; computed.
 use Rattle.std.specs.Prelude.{◌≡◌, ℕ, List, [], ◌∷◌, Option, Some, None, refl}
 use Rattle.pdl_kit.specs.declared.rule.Rule.{Rule}
-use Rattle.pdl_kit.specs.declared.rule.Rule.TheVariants.{S6, P1}
+use Rattle.pdl_kit.specs.declared.rule.Rule.TheVariants.{S6}
 use Rattle.pdl_semantics.specs.Tree.{Mem, Pipe}
 use Rattle.pdl_rules.specs.Refusal.{Refused, refusal}
-use Rattle.pdl_rules.proofs.Judged.{judged}
 use Rattle.pdl_rules.proofs.Texts.{literal, constant, variable, plus, Line, separator, call, spec_call, verify, update, spec_check, param, advisory, whole}
 
 -- a short source with these memories and this body, which begins on line 3
@@ -23,9 +22,6 @@ updated =
     short []
     (spec_check ∷ spec_call "s" (variable "n" ∷ []) ∷ separator ∷ update "s" (variable "n" ∷ []) ∷ separator ∷ verify "s" (variable "n" ∷ []) ∷ [])
 
-updated_judged : judged updated ≡ None
-updated_judged = refl
-
 updated_accepted : refusal [] updated ≡ None
 updated_accepted = refl
 
@@ -42,8 +38,5 @@ updated_at_once_refused = refl
 abbrev advised : Pipe
 advised = short (advisory 2 "t" 8 4 ∷ []) (next ∷ [])
 
-advised_judged : judged advised ≡ None
-advised_judged = refl
-
-advised_refused : refusal [] advised ≡ at_line P1 2
-advised_refused = refl
+advised_accepted : refusal [] advised ≡ None
+advised_accepted = refl
