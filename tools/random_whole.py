@@ -145,10 +145,13 @@ class RandomPipe:
         self.put(moment, memory.name, lambda: self.ask(memory), True)
 
     def plan_advice(self, memory):
-        """Reads and writes of an advisory memory, anywhere; several of the writes in one stage, now and then."""
+        """Reads and writes of an advisory memory, anywhere; several of the writes in one stage, now and then, and of a hot one in two."""
         everywhere = [self.moment(Moment(0), Moment(self.segments - 1)) for _ in range(self.random.randint(2, 6))]
         for make in [self.look] * self.random.randint(1, 2) + [self.advise] * self.random.randint(1, 4):
             self.put(self.random.choice(everywhere), memory.name, lambda make=make: make(memory), self.chance(0.5))
+        if memory.hot and self.chance(0.7):
+            for segment in (0, self.random.randrange(self.segments)):
+                self.put(Moment(segment), memory.name, lambda: self.advise(memory))
 
     def plan_locked(self, memory):
         """Reservations, blocks, reads, writes and releases of a locked memory, in an order that the rules allow."""
@@ -219,7 +222,7 @@ class RandomPipe:
 
     def address(self, memory):
         """A variable for an address in a memory, and the line that binds it."""
-        if memory.hot and self.chance(0.8):
+        if memory.hot and self.chance(0.95 if memory.advisory else 0.8):
             name = self.define("a", memory.address)
             return name, f"{name} = {memory.address}'d1;"
         return self.bind("a", memory.address)
@@ -269,43 +272,49 @@ class RandomPipe:
     # Steps of memories
 
     def look(self, memory):
-        address, line = self.advised_address(memory) if memory.advisory and self.chance(0.3) else self.address(memory)
+        address, line = self.address_of_advice(memory) if memory.advisory else self.address(memory)
         return [line, f"{self.define('x', memory.width, is_advice=memory.advisory)} = {memory.name}[{address}];"]
 
     def advise(self, memory):
         """A write, whose address and value may hang on advice, and which may stand under a guard."""
-        address, line = self.advised_address(memory) if self.chance(0.3) else self.address(memory)
+        address, line = self.address_of_advice(memory)
         guard, lines = self.new_guard() if self.chance(0.3) else (None, [])
         self.see(with_advice=self.chance(0.5))
         value = self.scope.expression(memory.width, self.random.randint(0, 2))
         self.see()
         return [line, *lines, *self.under(guard, lambda: [f"{memory.name}[{address}] <- {value};"])]
 
-    def advised_address(self, memory):
-        """A variable for an address that may hang on advice, and the line that binds it."""
+    def address_of_advice(self, memory):
+        """A variable for an address in an advisory memory, which may hang on advice, and the line that binds it."""
+        if not self.chance(0.1 if memory.hot else 0.4):
+            return self.address(memory)
         self.see(with_advice=True)
         text = self.scope.expression(memory.address, self.random.randint(0, 1))
         name = self.define("k", memory.address, is_advice=True)
         return name, f"{name} = {text};"
 
     def with_advice(self, arguments):
-        """The arguments, some of them by advice."""
+        """Lines that read advice, mostly, and the arguments, some of them by advice."""
         if Forms.ADVISORY not in self.forms:
-            return arguments
+            return [], arguments
+        lines = self.look(self.random.choice([it for it in self.memories if it.advisory])) if self.chance(0.8) else []
         self.see(with_advice=True)
-        found = [self.advised(text, width) if self.chance(0.4) else text for text, (_, width) in zip(arguments, self.parameters)]
+        found = [self.advised(text, width) if self.chance(0.6) else text for text, (_, width) in zip(arguments, self.parameters)]
         self.see()
-        return found
+        return lines, found
 
     def advised(self, text, width):
-        """An argument by a variable that holds advice, where one is there."""
+        """An argument by a variable that holds advice, where one is there: mostly by one bit, so that the guess is right now and then."""
         there = {name for name, _ in self.scope.variables} & {it.name for it in self.known if it.is_advice}
         fitting = [(name, bits) for name, bits in self.scope.variables if name in there]
         if not fitting:
             return text
-        name, bits = self.random.choice(fitting)
+        name, bits = self.random.choice(fitting[-3:])
         by = f"{name}[{width - 1}:0]" if bits > width else name if bits == width else f"zext({name}, {width})"
-        return self.random.choice([by, f"({text}) + {by}"])
+        at = self.random.randrange(bits)
+        bit = f"{name}[{at}:{at}]"
+        other = f"({text}) + {width}'d1"
+        return self.random.choice([by, f"({text}) + {by}", *[f"({bit} ? {text} : {other})", f"({bit} ? {other} : {text})"] * 3])
 
     def ask(self, memory):
         guard, lines = self.new_guard() if self.chance(0.3) else (None, [])
@@ -362,7 +371,8 @@ class RandomPipe:
 
         def guessed():
             self.guess = self.arguments()
-            return [*self.own_check(), f"s = spec_call({', '.join(self.with_advice(self.guess))});"]
+            lines, arguments = self.with_advice(self.guess)
+            return [*self.own_check(), *lines, f"s = spec_call({', '.join(arguments)});"]
 
         lines += self.under(self.guess_guard, guessed)
         return [*lines[:-1], "} else {", *self.call(), "}"] if self.guess_guard else lines
@@ -372,7 +382,8 @@ class RandomPipe:
 
         def guessed():
             self.better = self.right_arguments()
-            return [f"update(s, {', '.join(self.with_advice(self.better))});"]
+            lines, arguments = self.with_advice(self.better)
+            return [*lines, f"update(s, {', '.join(arguments)});"]
 
         return self.under(self.guess_guard, guessed)
 
