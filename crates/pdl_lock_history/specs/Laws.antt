@@ -1,0 +1,25 @@
+-- Proper use that is told by a lock's history is proper use of its state in each cycle.
+use Rattle.std.specs.Prelude.{◌≡◌, ℕ, List, [], ◌∷◌, length, map}
+use Rattle.std.specs.List.{range_with_len}
+use Rattle.pdl_lockapi.specs.Lock.{LockState, LockAct, start, step, next_ticket, Proper, Covered}
+use Rattle.pdl_lock_history.specs.History.{next_given, live}
+use Rattle.pdl_lock_history.specs.Use.{AreUses, IsCovered}
+
+-- the state of a lock over an image after these cycles
+abbrev pub after : List ℕ → List LockAct → LockState
+after image [] = start image
+after image (a ∷ past) = step (after image past) a
+
+-- each cycle is one of proper use by the state as it starts
+abbrev pub IsProperByState : Type 0
+IsProperByState = (n : ℕ) (image : List ℕ) (past : List LockAct) (a : LockAct) → AreUses n (a ∷ past) → Proper n (after image past) a
+
+-- each ticket with which a look may be asked is one by the state
+abbrev pub IsCoveredByState : Type 0
+IsCoveredByState = (n t : ℕ) (image : List ℕ) (past : List LockAct) → AreUses n past → IsCovered past t → Covered (after image past) t
+
+-- the live reservations are those of the pending writes, and the next ticket is that of the state
+abbrev pub ArePending : Type 0
+ArePending = (n : ℕ) (image : List ℕ) (past : List LockAct) → AreUses n past
+    → (map (λ r. r.ticket) (live past) ≡ range_with_len (after image past).base (length (after image past).entries))
+    × (next_given past ≡ next_ticket (after image past))
