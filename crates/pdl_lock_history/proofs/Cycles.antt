@@ -92,7 +92,8 @@ release_is a es = at a.release2 a.release
     at false true = refl
     at false false = refl
 
-unreleased : (n : ℕ) (image : List ℕ) (past : List LockAct) (a : LockAct) → Known image past → IsUse n past a
+-- what the releases leave stands for the pending writes that they leave
+pub unreleased : (n : ℕ) (image : List ℕ) (past : List LockAct) (a : LockAct) → Known image past → IsUse n past a
     → Stand (IsWritten (a ∷ past)) (next_base (after image past) a) (drop (releases a) (live_in past a))
     (after_release a (filled_entries (after image past) a))
 unreleased n image past a known u =

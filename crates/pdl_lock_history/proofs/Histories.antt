@@ -9,7 +9,8 @@ use Rattle.pdl_lock_history.proofs.Standing.{Stand, stand_length, ticket_at, tic
 use Rattle.pdl_lock_history.proofs.Cycles.{known_first, known_next, live_in_long, through_pending, filled, releases_there, base_is}
 use Rattle.pdl_lock_history.proofs.Tails.{AllKnown, known_of, tail_left, given_stands}
 
-all_known : (n : ℕ) (image : List ℕ) (past : List LockAct) → AreUses n past → AllKnown image past
+-- of each history of proper use it is known
+pub all_known : (n : ℕ) (image : List ℕ) (past : List LockAct) → AreUses n past → AllKnown image past
 all_known n image [] u = known_first image
 all_known n image (a ∷ past) u =
     let k = all_known n image past u.0 in

@@ -2,7 +2,7 @@
 use Rattle.std.proofs.Common.{◌≡◌, refl, ℕ, zero, suc, ◌<◌, inl, ⊎_elim, true, false, List, [], ◌∷◌, None, get_or, arith}
 use Rattle.pdl_lockapi.specs.Lock.{LockAct, WriteAct, no_write_act}
 use Rattle.pdl_lock_history.specs.History.{next_given, live, live_in, released, squashed, IsWritten}
-use Rattle.pdl_lock_history.specs.Use.{IsTail, IsUse}
+use Rattle.pdl_lock_history.specs.Use.{IsTail, IsUse, AreUses}
 use Rattle.pdl_lock_history.specs.Laws.{after}
 
 -- a write through a ticket
@@ -94,6 +94,32 @@ both_proper = record {
   next = λ o. (record { cycle = 0; ticket = 0 }, record { cycle = 0; ticket = 1 }, record { cycle = 1; ticket = 2 } ∷ [], refl, (omega arith, inl (0, omega arith, refl, refl)));
   squash = λ o. both_tail;
 }
+
+two_proper : IsUse 3 [] two
+two_proper = record {
+  two = omega arith;
+  room = omega arith;
+  through = λ k l o. absurd (omega (arith, l));
+  oldest = λ o. absurd (cc o);
+  both = λ o. absurd (cc o);
+  next = λ o. absurd (cc o);
+  squash = λ o. absurd (cc o);
+}
+
+again_proper : IsUse 3 (both ∷ two ∷ []) again
+again_proper = record {
+  two = omega arith;
+  room = omega arith;
+  through = λ k l o. absurd (omega (arith, l));
+  oldest = λ o. absurd (cc o);
+  both = λ o. absurd (cc o);
+  next = λ o. absurd (cc o);
+  squash = λ o. absurd (cc o);
+}
+
+-- and so is the whole history
+all_proper : AreUses 3 (again ∷ both ∷ two ∷ [])
+all_proper = (((tt, two_proper), both_proper), again_proper)
 
 -- THE TICKET OF A SQUASHED RESERVATION
 

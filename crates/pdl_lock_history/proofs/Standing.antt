@@ -50,7 +50,7 @@ stand_drop V b c (suc k) (r ∷ rs) [] e h s = absurd s
 stand_drop V b c (suc k) (r ∷ rs) (x ∷ es) e h s = stand_drop V (suc b) c k rs es (omega (arith, e)) (omega (arith, h)) s.2
 
 -- a number below every ticket leaves none
-none_below : (V : Reservation → Type 0) (t b : ℕ) (rs : List Reservation) (es : List Entry)
+pub none_below : (V : Reservation → Type 0) (t b : ℕ) (rs : List Reservation) (es : List Entry)
     → t ≤ b → Stand V b rs es → filter (λ r. nat_lt r.ticket t) rs ≡ []
 none_below V t b [] es h s = refl
 none_below V t b (r ∷ rs) [] h s = absurd s

@@ -118,27 +118,38 @@ mark_last n image t (a ∷ since) act before e b =
     mark_in image (suc (length before)) t (since ++ act ∷ before) a (omega (arith, l))
     (carry n image (length before) (suc (length before)) t since (act ∷ before) (omega arith) (omega arith) b.1 b.2 b.3 m)
 
--- the tail of a squash is among the pending writes that the releases leave, or behind them
+-- the tail of a squash by a cycle is behind just those that were made up to it, of what the releases leave
+pub tail_mark : (n : ℕ) (image : List ℕ) (past : List LockAct) (a : LockAct) → AllKnown image past → AreUses n past → IsUse n past a
+    → (by : IsTail past a)
+    → a.tail ≡ next_base (after image past) a + count_made (suc (length by.before)) (drop (releases a) (live_in past a))
+tail_mark n image past a k u cycle by =
+    let c = suc (length by.before) in
+    let b : Before n image (length by.before) (by.since ++ by.act ∷ by.before) =
+    subst (λ (h : List LockAct). Before n image (length by.before) h) by.parts (k, u, by.kept.1, by.held) in
+    let m : MarksIn image c a.tail past a =
+    subst (λ (h : List LockAct). Last image c a.tail h) (sym by.parts) (mark_last n image a.tail by.since by.act by.before by.tail b) in
+    let long : suc (length past) ≡ length (by.since ++ by.act ∷ by.before) = ap length by.parts in
+    let sum : length (by.since ++ by.act ∷ by.before) ≡ length by.since + suc (length by.before) = length-append by.since (by.act ∷ by.before) in
+    let nb : next_base (after image past) a ≡ (after image past).base + releases a = base_is (after image past) a in
+    let d : count_made c (live_in past a) ≡ count_made c (drop (releases a) (live_in past a)) + releases a =
+    count_drop c (releases a) (live_in past a) (releases_there n past a cycle) (by.kept.0 (omega (arith, long, sum))) in
+    let e : a.tail ≡ (after image past).base + count_made c (live_in past a) = m in
+    let g : a.tail ≡ next_base (after image past) a + count_made c (drop (releases a) (live_in past a)) = omega (arith, nb, d, e) in
+    g
+
+-- so it is among the tickets of the pending writes that the releases leave, or behind them
 pub tail_left : (n : ℕ) (image : List ℕ) (past : List LockAct) (a : LockAct) → AllKnown image past → AreUses n past → IsUse n past a
     → a.squash ≡ true
     → (next_base (after image past) a ≤ a.tail)
     × (a.tail ≤ next_base (after image past) a + length (drop (releases a) (live_in past a)))
 tail_left n image past a k u cycle o =
-    let s : IsTail past a = cycle.squash o in
-    let c = suc (length s.before) in
-    let b : Before n image (length s.before) (s.since ++ s.act ∷ s.before) =
-    subst (λ (h : List LockAct). Before n image (length s.before) h) s.parts (k, u, s.kept.1, s.held) in
-    let m : MarksIn image c a.tail past a =
-    subst (λ (h : List LockAct). Last image c a.tail h) (sym s.parts) (mark_last n image a.tail s.since s.act s.before s.tail b) in
-    let long : suc (length past) ≡ length (s.since ++ s.act ∷ s.before) = ap length s.parts in
-    let sum : length (s.since ++ s.act ∷ s.before) ≡ length s.since + suc (length s.before) = length-append s.since (s.act ∷ s.before) in
-    let nb : next_base (after image past) a ≡ (after image past).base + releases a = base_is (after image past) a in
-    let d : count_made c (live_in past a) ≡ count_made c (drop (releases a) (live_in past a)) + releases a =
-    count_drop c (releases a) (live_in past a) (releases_there n past a cycle) (s.kept.0 (omega (arith, long, sum))) in
+    let by : IsTail past a = cycle.squash o in
+    let c = suc (length by.before) in
+    let e : a.tail ≡ next_base (after image past) a + count_made c (drop (releases a) (live_in past a)) =
+    tail_mark n image past a k u cycle by in
     let f : count_made c (drop (releases a) (live_in past a)) ≤ length (drop (releases a) (live_in past a)) =
     count_le c (drop (releases a) (live_in past a)) in
-    let e : a.tail ≡ (after image past).base + count_made c (live_in past a) = m in
-    (omega (arith, nb, d, e), omega (arith, nb, d, f, e))
+    (omega (arith, e), omega (arith, e, f))
 
 -- what is asked of a history in which a ticket was given
 abbrev Since : ℕ → List ℕ → ℕ → List LockAct → Type 0

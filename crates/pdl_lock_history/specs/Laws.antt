@@ -1,9 +1,9 @@
 -- Proper use that is told by a lock's history is proper use of its state in each cycle.
-use Rattle.std.specs.Prelude.{◌≡◌, ℕ, List, [], ◌∷◌, length, map}
+use Rattle.std.specs.Prelude.{◌≡◌, ℕ, suc, true, nat_lt, List, [], ◌∷◌, length, map, drop, filter}
 use Rattle.std.specs.List.{range_with_len}
 use Rattle.pdl_lockapi.specs.Lock.{LockState, LockAct, start, step, next_ticket, Proper, Covered}
-use Rattle.pdl_lock_history.specs.History.{next_given, live}
-use Rattle.pdl_lock_history.specs.Use.{AreUses, IsCovered}
+use Rattle.pdl_lock_history.specs.History.{next_given, releases, live, live_in}
+use Rattle.pdl_lock_history.specs.Use.{IsTail, AreUses, IsCovered}
 
 -- the state of a lock over an image after these cycles
 abbrev pub after : List ℕ → List LockAct → LockState
@@ -23,3 +23,8 @@ abbrev pub ArePending : Type 0
 ArePending = (n : ℕ) (image : List ℕ) (past : List LockAct) → AreUses n past
     → (map (λ r. r.ticket) (live past) ≡ range_with_len (after image past).base (length (after image past).entries))
     × (next_given past ≡ next_ticket (after image past))
+
+-- a squash by a cycle c leaves just those that were made up to c, of the live reservations that the releases leave
+abbrev pub DropsLater : Type 0
+DropsLater = (n : ℕ) (past : List LockAct) (a : LockAct) → AreUses n (a ∷ past) → a.squash ≡ true → (by : IsTail past a)
+    → live (a ∷ past) ≡ filter (λ r. nat_lt r.cycle (suc (length by.before))) (drop (releases a) (live_in past a))

@@ -3,11 +3,12 @@
 //! The function does nothing: its clauses are laws of the definitions.
 #![tactic(auto)]
 
-ghost use Rattle.pdl_lock_history.specs.Laws.{IsProperByState, IsCoveredByState, ArePending};
+ghost use Rattle.pdl_lock_history.specs.Laws.{IsProperByState, IsCoveredByState, ArePending, DropsLater};
 
-/// Where a lock was used properly in each cycle by what came before it, each cycle is one of proper use by the lock's state, and a look with a ticket that still stands is covered.
+/// Where each cycle was proper use by what came before it, each is one by the lock's state, a look with a ticket that still stands is covered, and each squash drops what was reserved after its cycle.
 pub fn history()
     ensures proper { IsProperByState }
     ensures covered { IsCoveredByState }
     ensures pending { ArePending }
+    ensures squash { DropsLater }
 {}
