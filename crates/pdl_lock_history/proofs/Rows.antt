@@ -1,6 +1,6 @@
 -- Short histories of a lock, and what the definitions say of them.
-use Rattle.std.proofs.Common.{◌≡◌, refl, ℕ, zero, suc, ◌<◌, inl, ⊎_elim, true, false, List, [], ◌∷◌, None, get_or, arith}
-use Rattle.pdl_lockapi.specs.Lock.{LockAct, WriteAct, no_write_act}
+use Rattle.std.proofs.Common.{◌≡◌, refl, ℕ, zero, suc, ◌<◌, inl, ⊎_elim, true, false, List, [], ◌∷◌, None, get_or, Contains, arith}
+use Rattle.pdl_lockapi.specs.Lock.{LockAct, WriteAct, act_at}
 use Rattle.pdl_lock_history.specs.History.{next_given, live, live_in, released, squashed, IsWritten}
 use Rattle.pdl_lock_history.specs.Use.{IsTail, IsUse, AreUses}
 use Rattle.pdl_lock_history.specs.Laws.{after}
@@ -64,10 +64,6 @@ first_two P p q zero h = p
 first_two P p q (suc zero) h = q
 first_two P p q (suc (suc k)) h = absurd (omega (arith, h))
 
-first_only : (P : ℕ → Type 0) → P 0 → (k : ℕ) → k < 1 → P k
-first_only P p zero h = p
-first_only P p (suc k) h = absurd (omega (arith, h))
-
 -- the squash drops what was reserved after the first cycle
 both_tail : IsTail (two ∷ []) both
 both_tail = record {
@@ -83,12 +79,16 @@ both_tail = record {
   held = (λ h k d l. absurd (omega (arith, l)), tt);
 }
 
+-- the tickets that are live in the second cycle
+abbrev three : List ℕ
+three = 0 ∷ 1 ∷ 2 ∷ []
+
 -- it is proper use
 both_proper : IsUse 3 (two ∷ []) both
 both_proper = record {
   two = omega arith;
   room = omega arith;
-  through = λ k l o. first_two (λ j. (i : ℕ) × (i < 3) × (get_or (0 ∷ 1 ∷ 2 ∷ []) i (get_or (write 1 9 ∷ write 0 7 ∷ []) j no_write_act).ticket ≡ (get_or (write 1 9 ∷ write 0 7 ∷ []) j no_write_act).ticket)) (1, omega arith, refl) (0, omega arith, refl) k l;
+  through = λ k l o. first_two (λ j. Contains three (act_at both.writes j).ticket) (1, omega arith, refl) (0, omega arith, refl) k l;
   oldest = λ o. (record { cycle = 0; ticket = 0 }, record { cycle = 0; ticket = 1 } ∷ record { cycle = 1; ticket = 2 } ∷ [], refl, (omega arith, inl (1, omega arith, refl, refl)));
   both = λ o. refl;
   next = λ o. (record { cycle = 0; ticket = 0 }, record { cycle = 0; ticket = 1 }, record { cycle = 1; ticket = 2 } ∷ [], refl, (omega arith, inl (0, omega arith, refl, refl)));
