@@ -14,7 +14,7 @@ use Rattle.pdl_net.specs.declared.Netlist.{Netlist}
 use Rattle.pdl_net.specs.Run.{delayed_mems}
 use Rattle.pdl_law_parts.specs.Places.{delayed_count}
 use Rattle.pdl_law_sides.specs.WholeNetlist.{in_order}
-use Rattle.pdl_law_follows.specs.Memories.{replies_in, taken_in_order}
+use Rattle.pdl_cli_commands.specs.Memories.{replies_in, taken_in_order}
 use Rattle.pdl_image.specs.Lines as image_lines
 use Rattle.pdl_image.specs.Images.{IsImage, image, after_header, first_wrong}
 use Rattle.pdl_image.specs.Slots.{all_slots}

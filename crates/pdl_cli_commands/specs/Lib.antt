@@ -4,3 +4,4 @@ pub mod Replies
 pub mod Simulated
 pub mod Commands
 pub mod Outcomes
+pub use Rattle.pdl_law_follows.specs.Memories

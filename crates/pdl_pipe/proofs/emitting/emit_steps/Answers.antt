@@ -10,7 +10,7 @@ use Rattle.pdl_pipe_beside.proofs.PortSteps.{ports_stand}
 use Rattle.pdl_pipe_beside.proofs.OrderSteps.{orders_stand, squashes_keep}
 use Rattle.pdl_pipe_nexts.specs.Lines.{line_form, line_pipe}
 use Rattle.pdl_pipe_nexts.proofs.LineGrowth.{line_keep}
-use Rattle.pdl_pipe_moves.proofs.GateParts.{bit_keep}
+use Rattle.pdl_pipe_emitted.proofs.pipe_moves.GateParts.{bit_keep}
 use Rattle.pdl_pipe_outputs.specs.ToldOutputs.{AreTold, AreCommits, AreAsked, OutsThere, ShowAll, output_of}
 use Rattle.pdl_pipe_outputs.proofs.RequestPorts.{are_asked}
 use Rattle.pdl_pipe_emitted.specs.Emitted.{AreEndsOf, Emission, Nets}
