@@ -1,12 +1,13 @@
 #!/usr/bin/env python3
 """Lists the definitions that a contract rests on, with their sizes.
 
-    definitions.py [--names] [--without CRATE:FILE:NAME].. [CRATE SOURCE CALL]
+    definitions.py [--names | --read] [--without CRATE:FILE:NAME].. [CRATE SOURCE CALL]
 
 It takes the names that the clauses of a public call cite, by default those of `top` (pdl_cli src/program.rt top), and
 goes down through every definition that these name in the specs/ of the crates. It prints how many definitions and lines
-there are, by crate and file, and with --names each definition, the longest first. A definition of --without is passed
-over, and what it alone names. Lines are those that are not empty, without the comment above a definition.
+there are, by crate and file, and with --names each definition, the longest first. With --read it prints the definitions
+themselves in their place, each with the line above it and after those that it names, so in an order to read. A definition
+of --without is passed over, and what it alone names. Lines are those that are not empty, without the comment above a definition.
 
 What it says is a little too much: a name that a definition binds itself counts as the definition of that name in its file.
 Not counted: the standard library, ported crates, and the types of the code, of which it says how many are named.
@@ -26,10 +27,11 @@ NAMED = re.compile(r"(?<![\w.])([A-Za-z_][\w']*)")
 
 
 class Definition:
-    """The names that a block of lines defines, the lines, and how many of them are not empty."""
+    """The names that a block of lines defines, the lines, those of the comment above, and how many of the lines are not empty."""
 
-    def __init__(self, block, line):
+    def __init__(self, block, line, comment):
         self.text = re.sub(r"--.*", "", "\n".join(block))
+        self.shown = "\n".join(comment + block).rstrip()
         self.line = line
         self.size = sum(1 for row in block if row.strip())
         self.names = set(names_of(block))
@@ -83,7 +85,10 @@ def definitions_of(rows):
         end = at + 1
         while end < len(rows) and not (rows[end].startswith("--") or BEGINS.match(rows[end]) or USE.match(rows[end])):
             end += 1
-        yield Definition(rows[at:end], at + 1)
+        above = at
+        while above and rows[above - 1].startswith("--"):
+            above -= 1
+        yield Definition(rows[at:end], at + 1, rows[above:at])
         at = end
 
 
@@ -137,16 +142,24 @@ class Specs:
         for name in set(NAMED.findall(text)):
             yield self.find(place, name, imports)
 
+    def rests_on(self, place, it):
+        """The other definitions that a definition names, by crate, file and line."""
+        found = {id(other): (there, other) for there, other in filter(None, self.named_by(place, it.text)) if other is not it}
+        return sorted(found.values(), key=lambda row: (row[0], row[1].line))
+
     def below(self, roots, without):
-        """The roots, and all that they rest on."""
-        seen, left = {}, [root for root in roots if root]
+        """The roots, and all that they rest on, each after what it names."""
+        ordered, seen = [], set()
+        left = [(root, False) for root in sorted(filter(None, roots), key=lambda row: (row[0], row[1].line), reverse=True)]
         while left:
-            place, it = left.pop()
-            if id(it) in seen or it in without:
-                continue
-            seen[id(it)] = place, it
-            left += [found for found in self.named_by(place, it.text) if found and found[1] is not it]
-        return list(seen.values())
+            (place, it), is_over = left.pop()
+            if is_over:
+                ordered.append((place, it))
+            elif id(it) not in seen and it not in without:
+                seen.add(id(it))
+                left.append(((place, it), True))
+                left += [(other, False) for other in reversed(self.rests_on(place, it))]
+        return ordered
 
 
 def clauses_of(path, call):
@@ -172,6 +185,7 @@ def main():
     asked = usage.Words()
     asked.add_argument("call", nargs="*")
     asked.add_argument("--names", action="store_true")
+    asked.add_argument("--read", action="store_true")
     asked.add_argument("--without", action="append", default=[])
     it = asked.parse_args()
     if len(it.call) not in (0, 3):
@@ -179,7 +193,18 @@ def main():
     specs = Specs()
     crate, source, call = it.call or ["pdl_cli", "src/program.rt", "top"]
     text, imports = clauses_of(TOP / "crates" / crate / source, call)
-    report(specs.below(specs.named_by(None, text, imports), [without_of(specs, told) for told in it.without]), specs, it.names)
+    found = specs.below(specs.named_by(None, text, imports), [without_of(specs, told) for told in it.without])
+    show(found) if it.read else report(found, specs, it.names)
+
+
+def show(found):
+    """Prints the definitions, each with the line above it, and the file where the one before stands in another."""
+    before = None
+    for (crate, file), it in found:
+        if (crate, file) != before:
+            print(f"\n==== {crate}/specs/{file.replace('.', '/')}.antt")
+        print(f"\n{it.shown}")
+        before = crate, file
 
 
 def report(found, specs, show):
