@@ -8,6 +8,7 @@ ghost use Rattle.pdl_net_needed.specs.Needed.{AllNeeded};
 ghost use Rattle.pdl_pipe_walk.specs.Locked.{members};
 ghost use Rattle.pdl_pipe_locks.specs.Suited.{AreSuited};
 ghost use Rattle.pdl_law_follows.specs.Follows.{Follows};
+ghost use Rattle.pdl_law_follows.specs.Refined.{RefinesThreads, MovesOldest, EndsThreads};
 ghost use Rattle.pdl_pipe.specs.Infos.{is_told};
 ghost use Rattle.pdl_pipe.specs.Locks.{HasLocks, HasLocksOf, any_lock};
 
@@ -88,9 +89,12 @@ fn needed_with<L: LockModule + Copy>(
     part
 }
 
-/// The netlist of an accepted pipe, without what nothing needs, equal cells, or cells that could be constants: it follows the pipe, and each memory with a lock has the lock that it asks for. The error is that memory ran out.
+/// The netlist of an accepted pipe, without what nothing needs, equal cells, or cells that could be constants: it follows the pipe, and each memory with a lock has the lock that it asks for. So from each image and with each schedule of replies it writes what the threads write that run one after another, its oldest thread moves in each cycle that leaves no request unanswered, and enough threads end. The error is that memory ran out.
 pub fn compile(alloc: Global, accepted: &Accepted) -> Result<Netlist, NoMemory>
     ensures follows { IfOk result (λ n. Follows (pipe_view accepted.now.typed.pipe) n) }
+    ensures writes { IfOk result (λ n. RefinesThreads (pipe_view accepted.now.typed.pipe) n) }
+    ensures moves { IfOk result (λ n. MovesOldest (pipe_view accepted.now.typed.pipe) n) }
+    ensures ends { IfOk result (λ n. EndsThreads (pipe_view accepted.now.typed.pipe) n) }
     ensures locks { IfOk result (λ n. HasLocksOf any_lock (pipe_view accepted.now.typed.pipe) n) }
     ensures needed { IfOk result (λ n. AllNeeded (circuit_of n)) }
     ensures different { IfOk result (λ n. AllPairs (λ a b. a ≢ b) n.cells) }

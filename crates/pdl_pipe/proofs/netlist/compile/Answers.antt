@@ -4,6 +4,7 @@ use Rattle.pdl_form.specs.Form.{Form}
 use Rattle.pdl_form_types.proofs.FormTyping.{typed_whole}
 use Rattle.pdl_form_types.specs.Stmts.{AreTypedMems}
 use Rattle.pdl_lock_kinds.specs.AskedLocks.{AreInTime, AreSizedLocks}
+use Rattle.pdl_law_follows.proofs.Sequential as sequential
 use Rattle.pdl_pipe.proofs.LocksAllowed.{sized_locks, locks_in_time, suited_as}
 use Rattle.pdl_pipe.proofs.netlist.compile.Goals as goal
 
@@ -24,3 +25,21 @@ locks_of-requires-clause-sizes c =
 
 pub needed_with-requires : goal.needed_with-requires
 needed_with-requires c = record { suited = suited_as _ _ _ _ _ _ c.flat.ensures c.as_slice.ensures.value c.in_ok-locks.ensures.suited }
+
+pub returns-clause-writes : goal.returns-clause-writes
+returns-clause-writes c =
+    let a = c.args.accepted.now in
+    let n = c.in_ok-netlist in
+    sequential.refines (pipe_view a.typed.pipe) a.kept a.source a.letters n.netlist n.ensures.follows
+
+pub returns-clause-moves : goal.returns-clause-moves
+returns-clause-moves c =
+    let a = c.args.accepted.now in
+    let n = c.in_ok-netlist in
+    sequential.moves (pipe_view a.typed.pipe) a.kept a.source a.letters n.netlist n.ensures.follows
+
+pub returns-clause-ends : goal.returns-clause-ends
+returns-clause-ends c =
+    let a = c.args.accepted.now in
+    let n = c.in_ok-netlist in
+    sequential.ends (pipe_view a.typed.pipe) a.kept a.source a.letters n.netlist n.ensures.follows
