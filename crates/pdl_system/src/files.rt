@@ -1,7 +1,7 @@
 // Files, by name.
 ghost use Rattle.std.specs.Prelude.{◌≡◌, ℕ, ◌≤◌, ◌++◌, [], ◌∷◌, Bool, List, IfOk, IfErr, IsTrue, vec_len};
 ghost use Rattle.std.specs.declared.option.Option.{Option};
-ghost use Rattle.pdl_system.specs.Answers.{Answer, gave as gave_bytes, failed as gave_none};
+ghost use Rattle.pdl_system.specs.Answers.{Answer, gave as gave_bytes, failed as none_given};
 ghost use Rattle.pdl_system.specs.Files.{Held, Gives, AreTold, ReadHasCause};
 
 use pdl_kit::files::{LONGEST_FILE, ReadError};
@@ -29,8 +29,8 @@ pub trait Files {
         ensures bound { IfOk result (λ b. vec_len b ≤ LONGEST_FILE) }
         ensures gave { IfOk result (λ b. answers self.new
             ≡ answers self.old ++ gave_bytes name.now b.items ∷ []) }
-        ensures failed { IfErr result (λ e. answers self.new
-            ≡ answers self.old ++ gave_none name.now ∷ []) }
+        ensures gave_none { IfErr result (λ e. answers self.new
+            ≡ answers self.old ++ none_given name.now ∷ []) }
         ensures told { AreTold (holds self.old) (answers self.old)
             → AreTold (holds self.new) (answers self.new) }
         ensures later { faults self.old ≤ faults self.new }

@@ -2,7 +2,7 @@
 ghost use Rattle.std.specs.Prelude.{◌≡◌, ◌≤◌, ◌↔◌, ◌++◌, [], ◌∷◌, List, ℕ, Some, true, IfOk, IfErr, IsErrOf, vec_len};
 ghost use Rattle.std.specs.Option.{option_copied};
 ghost use Rattle.pdl_kit.specs.Counts.{raised_count};
-ghost use Rattle.pdl_system.specs.Answers.{gave as gave_bytes, failed as gave_none};
+ghost use Rattle.pdl_system.specs.Answers.{gave as gave_bytes, failed as none_given};
 ghost use Rattle.pdl_system.specs.Files.{Gives, AreTold, ReadHasCause};
 ghost use Rattle.pdl_system.specs.FilesInMemory.{ReadFails, after_read, found_in, held_of};
 
@@ -60,7 +60,7 @@ impl MemFiles {
     // A fault is counted: the file of this name was not read.
     fn fault(&mut self, name: &str) -> ReadError
         ensures state { self.new ≡ record self.old {
-          answers = self.old.answers ++ gave_none name.now ∷ [];
+          answers = self.old.answers ++ none_given name.now ∷ [];
           faults = raised_count self.old.faults;
         } }
         ensures later { self.old.faults ≤ self.new.faults }
@@ -101,7 +101,7 @@ impl Files for MemFiles {
     ghost may = { λ s n. true };
 
     /// Reads a file. It fails exactly where the name is missing, the file is too long, or this call is listed.
-    #[tactic(auto, using(crate::proofs::FileMap::held_is, crate::proofs::ToldAnswers::told_more))]
+    #[tactic(auto, using(crate::proofs::FileMap::held_is, crate::proofs::ToldAnswers::told_on))]
     fn read(&mut self, name: &str) -> Result<Vec<u8>, ReadError>
         ensures failed { IsErrOf result ReadError.Failed ↔ ReadFails self.old name.now }
         ensures state { self.new ≡ after_read self.old name.now result }
@@ -110,7 +110,7 @@ impl Files for MemFiles {
         ensures gave { IfOk result (λ b. self.new.answers
             ≡ self.old.answers ++ gave_bytes name.now b.items ∷ []) }
         ensures gave_none { IfErr result (λ e. self.new.answers
-            ≡ self.old.answers ++ gave_none name.now ∷ []) }
+            ≡ self.old.answers ++ none_given name.now ∷ []) }
         ensures told { AreTold (Some (held_of self.old.files)) self.old.answers
             → AreTold (Some (held_of self.new.files)) self.new.answers }
         ensures later { self.old.faults ≤ self.new.faults }

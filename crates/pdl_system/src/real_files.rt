@@ -1,7 +1,7 @@
 // The files of the system.
 ghost use Rattle.std.specs.Prelude.{◌≡◌, ◌≤◌, ◌++◌, [], ◌∷◌, None, true};
 ghost use Rattle.pdl_kit.specs.Counts.{raised_count};
-ghost use Rattle.pdl_system.specs.Answers.{failed as gave_none};
+ghost use Rattle.pdl_system.specs.Answers.{failed as none_given};
 
 use crate::account::Answers;
 use crate::files::Files;
@@ -40,7 +40,7 @@ impl<R: std::rt::Files + AllocGlobal> RealFiles<R> {
 
     // A fault is counted: the file of this name was not read.
     fn fault(&mut self, name: &str) -> ReadError
-        ensures answers { self.new.answers.list ≡ self.old.answers.list ++ gave_none name.now ∷ [] }
+        ensures answers { self.new.answers.list ≡ self.old.answers.list ++ none_given name.now ∷ [] }
         ensures faults { self.new.faults ≡ raised_count self.old.faults }
         ensures later { self.old.faults ≤ self.new.faults }
         ensures failed { result ≡ ReadError.Failed }
