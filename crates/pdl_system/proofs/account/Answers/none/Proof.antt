@@ -31,7 +31,7 @@ use Rattle.pdl_system.proofs.account.Answers.none.Code as code
 abbrev v : Val
 v = vstruct (vcons (vstruct vnil) vnil)
 
-abbrev r : Record
+abbrev r : Answers
 r = record { marker = record {}; list = [] }
 
 meets : {M : Type 1} {𝓤 : Ura M} (𝓛 : Logic 𝓤) → (at_mem : Memory → SProp 𝓤) (run : Routine → Fun 𝓤) (𝓣 : Tables 𝓤 𝓛.H)
