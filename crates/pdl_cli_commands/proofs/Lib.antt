@@ -8,6 +8,7 @@ pub mod OutputCount
 pub mod ReadNames
 pub mod Explanations
 pub mod BegunRuns
+pub mod FileFailures
 pub mod Starts
 pub mod SequentialLines
 pub mod RunSummaries

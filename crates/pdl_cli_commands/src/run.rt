@@ -29,6 +29,7 @@ use std::alloc::Global;
 use std::mem::drop;
 
 /// Reads and checks a source.
+#[tactic(auto, using(crate::proofs::FileFailures::read_off, crate::proofs::FileFailures::source_refused))]
 pub fn accept<F: Files>(alloc: Global, files: &mut F, name: &str) -> Result<Accepted, Failure>
     requires { IsTrue (F.may files.old name.now) }
     ensures ok { IfOk result (λ a. (b : List ℕ)
@@ -47,6 +48,7 @@ pub fn accept<F: Files>(alloc: Global, files: &mut F, name: &str) -> Result<Acce
 }
 
 /// Reads an image for the memories of a pipe.
+#[tactic(auto, using(crate::proofs::FileFailures::read_off, crate::proofs::FileFailures::image_refused))]
 pub fn load<F: Files>(
     alloc: Global,
     files: &mut F,
