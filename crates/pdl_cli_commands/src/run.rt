@@ -98,7 +98,7 @@ fn verdict_of(alloc: Global, accepted: &Accepted) -> Result<Vec<u8>, NoMemory>
 }
 
 /// The text that `check` writes for a source with this name.
-#[tactic(auto, using(crate::proofs::Starts::source_made, crate::proofs::Starts::source_off, crate::proofs::Starts::source_out))]
+#[tactic(auto, using(crate::proofs::Starts::source_off))]
 pub fn verdict<F: Files>(alloc: Global, files: &mut F, source: &str) -> Result<Vec<u8>, Failure>
     requires { IsTrue (F.may files.old source.now) }
     ensures ok { IfOk result (λ t. Since (F.answers files.old) (F.answers files.new)

@@ -15,7 +15,7 @@ returns-clause-ok g c =
     let a = c.in_ok-accepted.ensures.ok in
     let source = c.args.source.now in
     IfOk-weaker c.in_memory-text.result _ _
-    (λ t f. source_made (command.build source) source refl (g.F.Files.answers c.args.files.now) (g.F.Files.answers c.accept-accepted.new.files)
+    (λ t f. source_made (command.build source) source refl (g.F.Files.answers c.args.files.now) (g.F.Files.answers c.accept.new.files)
     a.0 t.items a.1 (f a.0 a.2))
     (made_so c.text_of.result c.in_memory-text.result _ c.in_memory-text.ensures.ok c.text_of.ensures)
 
@@ -24,9 +24,9 @@ returns-clause-err g c =
     let a = c.in_ok-accepted.ensures.ok in
     let source = c.args.source.now in
     let old = g.F.Files.answers c.args.files.now in
-    let new = g.F.Files.answers c.accept-accepted.new.files in
+    let new = g.F.Files.answers c.accept.new.files in
     let before = g.F.Files.faults c.args.files.now in
-    let now = g.F.Files.faults c.accept-accepted.new.files in
+    let now = g.F.Files.faults c.accept.new.files in
     IfErr-weaker c.in_memory-text.result _ _
     (λ f e. subst (λ x. Since old new (λ reads. Fails (command.build source) reads before now x)) (sym e)
     (source_out (command.build source) source refl old new a.0 before now a.1)) c.in_memory-text.ensures.err
@@ -34,6 +34,6 @@ returns-clause-err g c =
 pub returns-in_err-accepted-clause-err : goal.returns-in_err-accepted-clause-err
 returns-in_err-accepted-clause-err g c =
     let source = c.args.source.now in
-    source_off (command.build source) source refl (g.F.Files.answers c.args.files.now) (g.F.Files.answers c.accept-accepted.new.files) _
-    (g.F.Files.faults c.args.files.now) (g.F.Files.faults c.accept-accepted.new.files) _
+    source_off (command.build source) source refl (g.F.Files.answers c.args.files.now) (g.F.Files.answers c.accept.new.files) _
+    (g.F.Files.faults c.args.files.now) (g.F.Files.faults c.accept.new.files) _
     (λ text rule position r. r) c.in_err-accepted.ensures.err
