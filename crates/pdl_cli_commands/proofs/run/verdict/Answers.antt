@@ -5,7 +5,7 @@ use Rattle.pdl_syntax_tree.specs.View.{pipe_view}
 use Rattle.pdl_cli_args.specs.Line as command
 use Rattle.pdl_cli_failure.proofs.InMemory.{made_so}
 use Rattle.pdl_cli_commands.specs.Outcomes.{Fails}
-use Rattle.pdl_cli_commands.proofs.Starts.{source_made, source_off, source_out}
+use Rattle.pdl_cli_commands.proofs.Starts.{source_made, source_out}
 use Rattle.pdl_cli_commands.proofs.run.verdict.Goals as goal
 
 pub returns-clause-ok : goal.returns-clause-ok
