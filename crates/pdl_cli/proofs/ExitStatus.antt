@@ -121,7 +121,10 @@ exclusive (view s i' c d) (b ∷ []) text rule position o w = o
 -- where all files gave their texts, none failed
 none_failed : (command : Command) (reads : List Answer) → IsReading command reads → AreAllGiven command reads → HasFailed reads → ⊥
 none_failed command reads order all failed =
-    let few = few_reads command reads order in absurd (omega (arith, few, all, failed))
+    let few = few_reads command reads order in
+    let each : length (texts reads) ≡ length (files command) = all in
+    let short : length (texts reads) < length reads = failed in
+    absurd (omega (arith, few, each, short))
 
 of_command : (command : Command) (s : Seen) (o : Result (Unit {0}) Failure) → Explains (Some command) s o
     → IsDecided command s (status_of o)

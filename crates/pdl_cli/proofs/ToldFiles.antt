@@ -83,9 +83,10 @@ module _ (held : Held) (command : Command) (reads : List Answer) (told : AreTold
       → (rule : Rule) (position : Position) → IsWrongOf held command rule position → ⊥
   none_wrong all text writes rule position w =
       let few = few_texts reads in let most = few_reads command reads order in
-      let each : length (texts reads) ≡ length reads = omega (arith, all, few, most) in
+      let whole : length (texts reads) ≡ length (files command) = all in
+      let each : length (texts reads) ≡ length reads = omega (arith, whole, few, most) in
       let short = hold_few held (files command) w.0 w.1 in
-      let within : length w.0 ≤ length (texts reads) = omega (arith, all, short) in
+      let within : length w.0 ≤ length (texts reads) = omega (arith, whole, short) in
       let same = same_first held (files command) w.0 (texts reads) w.1 (holds each) within in
       by_length each (subst (λ us. IsWrongFor command us rule position) same w.2) (less_or_same (length w.0) (length (texts reads)) within)
     where
