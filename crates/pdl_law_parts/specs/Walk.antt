@@ -100,7 +100,7 @@ pub record Walk : Type 0 where
   pub births : List Birth
   pub asks : List Ask
   pub advises : List Advising
-  -- the arguments of the guess, whether a verify fails, and whether there is a barrier
+  -- the arguments of the guess, whether a verify fails or an update changes it, and whether there is a barrier
   pub guess : List Signal
   pub fails : Signal
   pub barrier : Signal
@@ -119,7 +119,7 @@ pub record IsFresh (w : Walk) : Type 0 where
 
 -- ---- rows
 
--- the signals that a row brings: whether it stands on the thread's path; after a row that binds the variable's, of a block whether its look is ready, of a write the value, of a verify whether it fails; the arguments of a call, and the guess after a row that guesses
+-- the signals that a row brings: whether it stands on the thread's path; after a row that binds the variable's, of a block whether its look is ready, of a write the value, of a verify whether it fails, of an update whether it changes the guess; the arguments of a call, and the guess after a row that guesses
 pub record Row : Type 0 where
   pub on : Signal
   pub value : Signal

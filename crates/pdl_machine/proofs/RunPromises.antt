@@ -8,11 +8,13 @@ use Rattle.pdl_semantics.specs.Flatten.{flat}
 use Rattle.pdl_semantics.specs.Machine.{State}
 use Rattle.pdl_semantics.specs.Cycle as stated
 use Rattle.pdl_semantics.specs.Promises.{Refines, Advances, KeepsPace, DifferInAdvice, AdviceIsIdle}
+use Rattle.pdl_semantics.specs.UpdateFree.{UpdatesAreIdle}
 use Rattle.pdl_semantics.specs.Sound.{is_sound}
+use Rattle.pdl_semantics.proofs.UpdateFree.{updates_idle}
 use Rattle.pdl_theory_facts.specs.Facts.{Sound}
 use Rattle.pdl_rules.specs.Refusal.{KeepsRules}
 use Rattle.pdl_source_paths.specs.Source.{is_source, is_named}
-use Rattle.pdl_theory.proofs.StatedTheorems.{whole_refines, whole_advances, whole_paces, whole_idle}
+use Rattle.pdl_theory.proofs.StatedTheorems.{whole_refines, whole_advances, whole_paces, whole_idle, updates_alike}
 use Rattle.pdl_source_paths.proofs.PipeFacts.{of_source}
 use Rattle.pdl_source_strict.proofs.Paths.{paths_strict}
 use Rattle.pdl_theory_states.proofs.EveryState
@@ -42,6 +44,10 @@ module _ (p : Pipe) (source : IsTrue (is_source p)) (letters : IsTrue (is_named 
   -- what advisory memories hold changes no write
   pub idle : (other : Arrays) (replies : List (List Bool)) → DifferInAdvice (flat p) image other → AdviceIsIdle (flat p) image other schedule replies
   idle other replies differ = whole_idle (flat p) facts image other schedule replies differ
+
+  -- updates change no write
+  pub updated : (replies : List (List Bool)) → UpdatesAreIdle p image schedule replies
+  updated replies = updates_idle p image schedule replies (updates_alike (flat p) facts image schedule replies)
 
   -- the state after the schedule is sound
   pub stays_sound : IsTrue

@@ -5,6 +5,7 @@ ghost use Rattle.pdl_semantics.specs.Flatten.{flat};
 ghost use Rattle.pdl_semantics.specs.Moves.{all_acts};
 ghost use Rattle.pdl_semantics.specs.Cycle as stated;
 ghost use Rattle.pdl_semantics.specs.Promises.{Refines, Advances, KeepsPace, DifferInAdvice, AdviceIsIdle};
+ghost use Rattle.pdl_semantics.specs.UpdateFree.{UpdatesAreIdle};
 ghost use Rattle.pdl_semantics.specs.Sound.{is_sound};
 ghost use Rattle.pdl_syntax_tree.specs.View.{pipe_view};
 ghost use Rattle.pdl_image.specs.Images.{IsImage};
@@ -105,6 +106,10 @@ impl<'a> Machine<'a> {
             HasRun self.new image schedule → (other : Arrays) (replies : List (List Bool)) →
             DifferInAdvice (flat_of self.new) (arrays_of image) other →
             AdviceIsIdle (flat_of self.new) (arrays_of image) other schedule replies }
+        // Nor do updates: without them the threads of the source write the same, and what both commit, with any replies, begins one list.
+        ensures updates { (image : List (List ℕ)) (schedule : List (List Bool)) →
+            HasRun self.new image schedule → (replies : List (List Bool)) →
+            UpdatesAreIdle (pipe_view self.new.pipe) (arrays_of image) schedule replies }
         // Its state is sound: it passes the whole test of Sound state, with as many turns of the sequential run as threads have ended.
         ensures sound { (image : List (List ℕ)) (schedule : List (List Bool)) →
             HasRun self.new image schedule →

@@ -22,7 +22,7 @@ use crate::ways::{next_stage, stage_at};
 use pdl_form::{FlatBranches, FlatPipe, side_in};
 use pdl_machine_pending::{Memory, Reserved};
 
-// Whether the thread in a stage, if there is one, doesn't move with a failing verify.
+// Whether the thread in a stage, if there is one, doesn't squash.
 fn is_harmless(stage: &Stage) -> bool
     ensures { (k : ℕ) → result ≡ moves.no_failure (act_here k stage.now.slot.number stage.now) }
 {
@@ -32,7 +32,7 @@ fn is_harmless(stage: &Stage) -> bool
     }
 }
 
-// Whether no thread from a stage on moves with a failing verify.
+// Whether no thread from a stage on squashes.
 fn no_failure(stages: &[Stage], first: usize) -> bool
     requires { first ≤ length stages.now }
     ensures { result ≡ moves.no_failure (all_of first (drop first stages.now)) }

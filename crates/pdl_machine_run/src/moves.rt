@@ -138,7 +138,7 @@ pub fn move_on(pipe: &FlatPipe, stages: &mut [Stage])
     }
 }
 
-/// The number of the thread that moves with a failing verify, if one does.
+/// The number of the thread that squashes, if one does.
 #[tactic(auto, using(crate::proofs::ActLists::squasher_on))]
 pub fn squasher(stages: &[Stage]) -> Option<u64>
     ensures { result ≡ stated.squasher (acts_of 0 stages.now) }

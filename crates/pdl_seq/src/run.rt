@@ -3,6 +3,7 @@ ghost use Rattle.std.specs.Prelude.{◌≡◌, ◌<◌, ◌+◌, ◌-◌, ◌^�
 ghost use Rattle.pdl_semantics.specs.Flat.{arrays_of};
 ghost use Rattle.pdl_semantics.specs.Sequential.{seqwrites};
 ghost use Rattle.pdl_semantics.specs.Promises.{DifferInAdvice};
+ghost use Rattle.pdl_semantics.specs.Updates.{not_updated};
 ghost use Rattle.pdl_syntax_tree.specs.View.{pipe_view};
 ghost use Rattle.pdl_rules.specs.Memories.{infos_of};
 ghost use Rattle.pdl_form.specs.Form.{form_of};
@@ -129,6 +130,10 @@ impl<'p> SeqRun<'p> {
             DifferInAdvice (form self.new.pipe).pipe (arrays_of image) (arrays_of other) → (m : ℕ) →
             seqwrites (form self.new.pipe).pipe (arrays_of image) m self.new.run
             ≡ seqwrites (form self.new.pipe).pipe (arrays_of other) m self.new.run }
+        // Nor do updates: without them the threads write the same.
+        ensures updates { (image : List (List ℕ)) → HasRun self.new image → (m : ℕ) →
+            seqwrites (not_updated (form self.new.pipe).pipe) (arrays_of image) m self.new.run
+            ≡ seqwrites (form self.new.pipe).pipe (arrays_of image) m self.new.run }
         ensures pipe { self.new.pipe ≡ self.old.pipe }
         ensures count { self.new.run ≡ self.old.run + 1 }
         ensures threads { self.new.threads ≡ self.old.threads }

@@ -133,7 +133,7 @@ shape_good ts =
 memory_of : {x c u o w g p d z : Word} {n size : ℕ} {ts r : Row} (v : MemKind × Option LockDecl) → IsKeeping ts v r
     → Memory (record { name = ident x; width = number_of w n; depth = number_of d size; kind = v.0; lock = v.1 })
     (type_row x c u o w n g (at p mark.OpenSquare ∷ on d (kind.Number size) ∷ at z mark.CloseSquare ∷ ts)) r
-memory_of _ (paced k delayed a e h) = rw e (memory delayed h)
+memory_of _ (paced k delayed rest e h) = rw e (memory delayed h)
 memory_of _ (advised k e) = rw e advisory
 
 mem_good : (ts : Row) → Good (λ x r. Memory x ts r) (first_of mems) (more mems ∷ []) (mem ts) ts

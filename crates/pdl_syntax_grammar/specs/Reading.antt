@@ -323,7 +323,7 @@ shape = do
   n ← number
   _ ← take mark.CloseSquare
   k ← keeping
-  pure (w, n, k)
+  pure (w, n, k.0, k.1)
 
 -- a memory
 unfoldable pub mem : Parser Mem

@@ -15,7 +15,7 @@ use Rattle.pdl_machine_facts.specs.Ports.{delayed_count, replies_of, whole_value
 use Rattle.pdl_machine_run.specs.Runs.{state_in}
 use Rattle.pdl_machine.specs.Running.{Running, flat_of, state_of, replies_to}
 use Rattle.pdl_machine.proofs.FlatForm.{form_is}
-use Rattle.pdl_machine.proofs.RunPromises.{run_on, refines, advances, paces, idle, stays_sound}
+use Rattle.pdl_machine.proofs.RunPromises.{run_on, refines, advances, paces, idle, updated, stays_sound}
 use Rattle.pdl_machine.proofs.machine.Machine.cycle.Goals as goal
 
 pub returns-clause-state : goal.returns-clause-state
@@ -94,6 +94,11 @@ pub returns-clause-advice : goal.returns-clause-advice
 returns-clause-advice c image schedule h other replies differ =
     let a = c.self.inside.accepted.now in
     idle (pipe_view a.typed.pipe) a.source a.letters a.kept (arrays_of image) schedule other replies differ
+
+pub returns-clause-updates : goal.returns-clause-updates
+returns-clause-updates c image schedule h replies =
+    let a = c.self.inside.accepted.now in
+    updated (pipe_view a.typed.pipe) a.source a.letters a.kept (arrays_of image) schedule replies
 
 pub returns-clause-sound : goal.returns-clause-sound
 returns-clause-sound c image schedule h =

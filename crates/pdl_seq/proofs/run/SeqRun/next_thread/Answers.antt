@@ -2,6 +2,7 @@ use Rattle.std.proofs.Common.{◌≡◌, ◌≤◌, ◌+◌, ◌-◌, ◌++◌, 
 use Rattle.std.specs.Prelude.{vec_len, vec_capacity}
 use Rattle.pdl_semantics.specs.Flat.{arrays_of}
 use Rattle.pdl_semantics.proofs.Advice.{same_seq}
+use Rattle.pdl_semantics.proofs.Updates.{seq_alike}
 use Rattle.pdl_semantics.specs.Sequential.{Run, run_all, thread}
 use Rattle.pdl_form.specs.FormView.{form}
 use Rattle.pdl_seq.specs.Turns.{Rooms, rooms, commits_view, run_view}
@@ -114,3 +115,6 @@ returns-clause-run c = λ image h.
 pub returns-clause-advice : goal.returns-clause-advice
 returns-clause-advice c image other h differ m =
     same_seq (form c.self.inside.pipe.now).pipe (arrays_of image) (arrays_of other) c.self.invariant.runnable.sound.advice differ m (c.self.inside.run + 1)
+
+pub returns-clause-updates : goal.returns-clause-updates
+returns-clause-updates c image h m = seq_alike (form c.self.inside.pipe.now).pipe (arrays_of image) m (c.self.inside.run + 1)
