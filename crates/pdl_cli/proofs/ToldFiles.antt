@@ -11,7 +11,7 @@ use Rattle.pdl_cli_failure.specs.Failures.{status_of}
 use Rattle.pdl_cli_commands.specs.Commands.{IsWrongFor, Writes}
 use Rattle.pdl_cli_commands.specs.Reading.{files, with_text, texts, IsReading, AreAllGiven, HasFailed}
 use Rattle.pdl_cli_commands.specs.Outcomes.{Seen, Explains}
-use Rattle.pdl_cli.specs.Told.{Hold, IsWrongOf, IsDecidedBy}
+use Rattle.pdl_cli.specs.Told.{Hold, WritesOf, IsWrongOf, HasComeOf, IsDecidedBy}
 use Rattle.pdl_cli_commands.proofs.Readings.{few_texts, few_reads, last_given}
 use Rattle.pdl_cli.proofs.ExitStatus.{exclusive}
 
@@ -78,13 +78,22 @@ module _ (held : Held) (command : Command) (reads : List Answer) (told : AreTold
   holds : length (texts reads) ≡ length reads → Hold held (files command) (texts reads)
   holds e = subst (λ names. Hold held names (texts reads)) (sym order.in_order) (held_texts held reads order.unread told e)
 
+  -- where all files gave their texts, each read did
+  each_given : AreAllGiven command reads → length (texts reads) ≡ length reads
+  each_given all =
+      let few = few_texts reads in let most = few_reads command reads order in
+      let whole : length (texts reads) ≡ length (files command) = all in omega (arith, whole, few, most)
+
+  -- so what a command writes of these texts, it writes of what its files hold
+  written_of : AreAllGiven command reads → (text : List ℕ) → Writes command (texts reads) text → WritesOf held command text
+  written_of all text writes = (texts reads, holds (each_given all), all, writes)
+
   -- what a command writes of all its files, it writes of no wrong one
   none_wrong : AreAllGiven command reads → (text : List ℕ) → Writes command (texts reads) text
       → (rule : Rule) (position : Position) → IsWrongOf held command rule position → ⊥
   none_wrong all text writes rule position w =
-      let few = few_texts reads in let most = few_reads command reads order in
       let whole : length (texts reads) ≡ length (files command) = all in
-      let each : length (texts reads) ≡ length reads = omega (arith, whole, few, most) in
+      let each = each_given all in
       let short = hold_few held (files command) w.0 w.1 in
       let within : length w.0 ≤ length (texts reads) = omega (arith, whole, short) in
       let same = same_first held (files command) w.0 (texts reads) w.1 (holds each) within in
@@ -106,7 +115,17 @@ module _ (held : Held) (command : Command) (reads : List Answer) (told : AreTold
       by_length (inl l) = absurd (last_given command reads order l rule position w)
       by_length (inr e) = (texts reads, holds e, w)
 
--- where reads gave what is held, what explains an outcome decides its status by what is held
+-- where reads gave what is held, what came of a command has its cause in what is held
+pub come_of : (held : Held) (command : Command) (s : Seen) (o : Result (Unit {0}) Failure) → AreTold (Some held) s.reads
+    → Explains (Some command) s o → HasComeOf held command s o
+come_of held command s (Ok x) told e = (e.cause.1, written_of held command s.reads told e.order e.cause.0 e.cause.1 e.cause.2, e.cause.3)
+come_of held command s (Err Usage) told e = tt
+come_of held command s (Err (Refused rule position)) told e = first_wrong held command s.reads told e.order rule position e.cause.0
+come_of held command s (Err ReadFault) told e = tt
+come_of held command s (Err WriteFault) told e = (e.cause.2, written_of held command s.reads told e.order e.cause.1 e.cause.2 e.cause.3, e.cause.4)
+come_of held command s (Err NoMemory) told e = tt
+
+-- and its status is decided by what is held
 pub decided_by : (held : Held) (command : Command) (s : Seen) (o : Result (Unit {0}) Failure) → AreTold (Some held) s.reads
     → Explains (Some command) s o → IsDecidedBy held command s (status_of o)
 decided_by held command s (Ok x) told e = record {

@@ -6,12 +6,15 @@ ghost use Rattle.pdl_cli_args.specs.Line.{Command};
 ghost use Rattle.pdl_cli_failure.specs.declared.failure.Failure.{Failure as failures};
 ghost use Rattle.pdl_cli_failure.specs.Failures.{status_of};
 ghost use Rattle.pdl_cli_commands.specs.Outcomes.{Seen, Explains};
-ghost use Rattle.pdl_cli.specs.Told.{IsDecidedBy};
+ghost use Rattle.pdl_cli.specs.Told.{HasComeOf, IsDecidedBy};
 
-/// Where files tell what they hold, and reads gave that, what explains an outcome decides its status by what the files hold.
-#[tactic(auto, using(crate::proofs::ToldFiles::decided_by))]
+/// Where files tell what they hold, and reads gave that, an outcome that is explained has its cause in what the files hold, and that decides its status.
+#[tactic(auto, using(crate::proofs::ToldFiles::come_of, crate::proofs::ToldFiles::decided_by))]
 pub fn told_files()
-    ensures { (held : Held) (command : Command) (s : Seen) (o : results (Unit {0}) failures)
+    ensures come { (held : Held) (command : Command) (s : Seen) (o : results (Unit {0}) failures)
+        → AreTold (Some held) s.reads → Explains (Some command) s o
+        → HasComeOf held command s o }
+    ensures decided { (held : Held) (command : Command) (s : Seen) (o : results (Unit {0}) failures)
         → AreTold (Some held) s.reads → Explains (Some command) s o
         → IsDecidedBy held command s (status_of o) }
 {}
