@@ -27,7 +27,7 @@ use Rattle.pdl_cli_commands.specs.Replies.{IsSchedule, DelaysRefused}
 use Rattle.pdl_cli_commands.specs.Simulated.{IsWrongReplies, IsWrongSim, IsSimulated}
 use Rattle.pdl_cli_commands.specs.Commands.{IsAccepted, IsLoaded, IsWrongDelays, IsWrongRun, IsWrongFor, Writes}
 use Rattle.pdl_cli_commands.specs.Reading.{files, texts, IsReading, AreAllGiven, HasFailed}
-use Rattle.pdl_cli_commands.specs.Outcomes.{Seen, Explains}
+use Rattle.pdl_cli_commands.specs.Outcomes.{Seen, seen_of, Explains}
 use Rattle.pdl_cli.specs.Top.{IsDecided, Answers, Decides}
 use Rattle.pdl_cli_commands.proofs.OneNetlist.{one_netlist, read_right}
 use Rattle.pdl_cli_commands.proofs.RightSources.{kept_unrefused, image_unrefused, start_unrefused}
@@ -173,17 +173,20 @@ pub decided : (command : Option Command) (s : Seen) (o : Result (Unit {0}) Failu
 decided None s o e = of_none s o e
 decided (Some command) s o e = of_command command s o e
 
-module _ (command : Option Command) (see : List Answer → Seen) (old new : List Answer) (o : Result (Unit {0}) Failure) (status : ℕ) where
+module _ (command : Option Command) (old new : List Answer) (faults faults_now : ℕ) (written written_now : Option (List ℕ)) (writes writes_now : ℕ)
+    (o : Result (Unit {0}) Failure) (status : ℕ) (is : status ≡ status_of o)
+    (explained : Since old new (λ reads. Explains command (seen_of reads faults faults_now written written_now writes writes_now) o)) where
   -- the status is that of the outcome which is explained, with the reads that were made since
-  pub answers_since : (Said : List ℕ → Type 0) → status ≡ status_of o → Said (text_of o) → Since old new (λ reads. Explains command (see reads) o)
-      → Since old new (λ reads. Answers command (see reads) Said status)
-  answers_since Said e said w = record { reads = w.reads; since = w.since; so = (o, e, w.so, said) }
+  pub answers_since : (Said : List ℕ → Type 0) → Said (text_of o)
+      → Since old new (λ reads. Answers command (seen_of reads faults faults_now written written_now writes writes_now) Said status)
+  answers_since Said said = record { reads = explained.reads; since = explained.since; so = (o, is, explained.so, said) }
 
   -- and is decided by them
-  pub decided_since : status ≡ status_of o → Since old new (λ reads. Explains command (see reads) o)
-      → Since old new (λ reads. Decides command (see reads) status)
-  decided_since e w = record {
-    reads = w.reads;
-    since = w.since;
-    so = subst (Decides command (see w.reads)) (sym e) (decided command (see w.reads) o w.so);
-  }
+  pub decided_since : Since old new (λ reads. Decides command (seen_of reads faults faults_now written written_now writes writes_now) status)
+  decided_since =
+      let s = seen_of explained.reads faults faults_now written written_now writes writes_now in
+      record {
+        reads = explained.reads;
+        since = explained.since;
+        so = subst (Decides command s) (sym is) (decided command s o explained.so);
+      }
