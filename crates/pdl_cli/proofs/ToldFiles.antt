@@ -97,13 +97,14 @@ module _ (held : Held) (command : Command) (reads : List Answer) (told : AreTold
       let short = hold_few held (files command) w.0 w.1 in
       let within : length w.0 ≤ length (texts reads) = omega (arith, whole, short) in
       let same = same_first held (files command) w.0 (texts reads) w.1 (holds each) within in
-      by_length each (subst (λ us. IsWrongFor command us rule position) same w.2) (less_or_same (length w.0) (length (texts reads)) within)
+      by_length (length w.0) each (subst (λ us. IsWrongFor command us rule position) same w.2)
+      (less_or_same (length w.0) (length (texts reads)) within)
     where
-      by_length : {n : ℕ} → length (texts reads) ≡ length reads → IsWrongFor command (take n (texts reads)) rule position
+      by_length : (n : ℕ) → length (texts reads) ≡ length reads → IsWrongFor command (take n (texts reads)) rule position
           → (n < length (texts reads)) ⊎ (n ≡ length (texts reads)) → ⊥
-      by_length {n} each v (inl l) =
+      by_length n each v (inl l) =
           order.right n (omega (arith, l, each)) rule position (subst (λ us. IsWrongFor command us rule position) (sym (texts_take n reads each)) v)
-      by_length {n} each v (inr e) =
+      by_length n each v (inr e) =
           exclusive command (texts reads) text rule position writes
           (subst (λ us. IsWrongFor command us rule position) (take_whole n (texts reads) (omega (arith, e))) v)
 

@@ -19,7 +19,7 @@ nothing_read (Some command) =
 
 fails_so : {T : Type 0} (command : Option Command) (e : LineError) (faults faults_now : ℕ) (written : Option (List ℕ)) (writes writes_now : ℕ)
     → (e ≡ line.Usage → command ≡ None)
-    → Explains {T} command (seen_of [] faults faults_now written written writes writes_now) (Err (of_line e))
+    → Explains {T = T} command (seen_of [] faults faults_now written written writes writes_now) (Err (of_line e))
 fails_so None line.Usage faults faults_now written writes writes_now none = record { order = refl; cause = refl }
 fails_so (Some command) line.Usage faults faults_now written writes writes_now none = absurd (cc (none refl))
 fails_so None line.NoMemory faults faults_now written writes writes_now none = record { order = refl; cause = refl }
@@ -29,8 +29,8 @@ fails_so (Some command) line.NoMemory faults faults_now written writes writes_no
 -- what explains that words are no command
 pub words_fail : {T : Type 0} (command : Option Command) (e : LineError) (f : Failure) (old : List Answer) (faults faults_now : ℕ)
     (written : Option (List ℕ)) (writes writes_now : ℕ) → f ≡ of_line e → (e ≡ line.Usage → command ≡ None)
-    → Since old old (λ reads. Explains {T} command (seen_of reads faults faults_now written written writes writes_now) (Err f))
+    → Since old old (λ reads. Explains {T = T} command (seen_of reads faults faults_now written written writes writes_now) (Err f))
 words_fail {T} command e f old faults faults_now written writes writes_now is none =
-    none_since old old (λ reads. Explains {T} command (seen_of reads faults faults_now written written writes writes_now) (Err f)) refl
-    (subst (λ (x : Failure). Explains {T} command (seen_of [] faults faults_now written written writes writes_now) (Err x)) (sym is)
+    none_since old old (λ reads. Explains {T = T} command (seen_of reads faults faults_now written written writes writes_now) (Err f)) refl
+    (subst (λ (x : Failure). Explains {T = T} command (seen_of [] faults faults_now written written writes writes_now) (Err x)) (sym is)
     (fails_so command e faults faults_now written writes writes_now none))

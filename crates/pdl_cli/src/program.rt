@@ -35,7 +35,7 @@ fn write_text<O: Sink>(text: Result<Vec<u8>, Failure>, out: &mut O) -> Result<()
 }
 
 // Does what a command asks for.
-#[tactic(auto, using(pdl_cli_commands::proofs::Explanations::text_explains, pdl_cli_commands::proofs::Explanations::generated_made, pdl_cli_commands::proofs::Explanations::generated_fails))]
+#[tactic(auto, using(pdl_cli_commands::proofs::Explanations::text_explains))]
 fn obey_line<F: Files, O: Sink>(
     alloc: Global,
     line: CommandLine<'_>,
@@ -124,7 +124,7 @@ fn obey<F: Files, O: Sink>(
 /// Does all that the program does: reads the words after its name, the files that they name, writes to `out`, and says on `err` why it does not.
 ///
 /// The files are read in the order of the words, each once, and none after one that is wrong or could not be read. The status that it answers is 0 where all was done; 1 where the words are no command; 2 where the first wrong file is refused; 3 where a file could not be read and the count of faults of the files rose, and 4 where that of `out` did, or where it stands at the last value of a `u64`; 5 where memory ran out, which no clause tells.
-#[tactic(auto, using(crate::proofs::ExitStatus::answers_since, crate::proofs::ExitStatus::decided_since))]
+#[tactic(auto, using(crate::proofs::ExitStatus::answers_since))]
 pub fn top<F: Files, O: Sink, E: Sink>(
     alloc: Global,
     words: &Vec<String>,

@@ -59,7 +59,7 @@ streamed_explains command s (Err NoMemory) IsText order all is w = record { orde
 
 -- a command that fails before anything is written leaves out as it was
 pub silent : {T : Type 0} (command : Command) (s : Seen) (f : Failure) → Fails command s.reads s.faults s.faults_now f
-    → s.written_now ≡ s.written → Explains {T} (Some command) s (Err f)
+    → s.written_now ≡ s.written → Explains {T = T} (Some command) s (Err f)
 silent command s Usage w e = absurd w.cause
 silent command s (Refused rule position) w e = record { order = w.order; cause = (w.cause, e) }
 silent command s ReadFault w e = record { order = w.order; cause = (w.cause.0, w.cause.1, e) }
@@ -131,10 +131,10 @@ after_first command r old mid new a before later now written written_now writes 
 pub silent_since : {T : Type 0} (command : Command) (f : Failure) (old new front : List Answer) (faults faults_now : ℕ)
     (written : Option (List ℕ)) (writes writes_now : ℕ)
     → Since old new (λ reads. Fails command (front ++ reads) faults faults_now f)
-    → Since old new (λ reads. Explains {T} (Some command) (seen_of (front ++ reads) faults faults_now written written writes writes_now) (Err f))
+    → Since old new (λ reads. Explains {T = T} (Some command) (seen_of (front ++ reads) faults faults_now written written writes writes_now) (Err f))
 silent_since {T} command f old new front faults faults_now written writes writes_now w =
     since_as old new (λ reads. Fails command (front ++ reads) faults faults_now f)
-    (λ reads. Explains {T} (Some command) (seen_of (front ++ reads) faults faults_now written written writes writes_now) (Err f))
+    (λ reads. Explains {T = T} (Some command) (seen_of (front ++ reads) faults faults_now written written writes writes_now) (Err f))
     (λ reads x. silent command (seen_of (front ++ reads) faults faults_now written written writes writes_now) f x refl) w
 
 -- a command whose first file isn't there
@@ -143,7 +143,7 @@ pub first_fails : {T : Type 0} (command : Command) (name : List ℕ) (rest : Lis
     → files command ≡ name ∷ rest
     → ((text : List ℕ) (rule : Rule) (position : Position) → refused text rule position → IsWrongFor command (text ∷ []) rule position)
     → FileFails refused old new faults faults_now name f
-    → Since old new (λ reads. Explains {T} (Some command) (seen_of reads faults faults_now written written writes writes_now) (Err f))
+    → Since old new (λ reads. Explains {T = T} (Some command) (seen_of reads faults faults_now written written writes writes_now) (Err f))
 first_fails command name rest refused old new faults faults_now written writes writes_now f named wrong w =
     silent_since command f old new [] faults faults_now written writes writes_now
     (file_fails command [] name (may_first command name rest named (none_wrong_yet command name rest named)) refused wrong old new faults faults_now f w)
@@ -151,9 +151,9 @@ first_fails command name rest refused old new faults faults_now written writes w
 -- memory runs out once the first file is read
 pub out_of_memory : {T : Type 0} (command : Command) (name b : List ℕ) (rest : List (List ℕ)) → files command ≡ name ∷ rest
     → (old : List Answer) (faults faults_now : ℕ) (written : Option (List ℕ)) (writes writes_now : ℕ)
-    → Since old old (λ reads. Explains {T} (Some command) (seen_of (gave name b ∷ reads) faults faults_now written written writes writes_now) (Err NoMemory))
+    → Since old old (λ reads. Explains {T = T} (Some command) (seen_of (gave name b ∷ reads) faults faults_now written written writes writes_now) (Err NoMemory))
 out_of_memory {T} command name b rest named old faults faults_now written writes writes_now =
-    none_since old old (λ reads. Explains {T} (Some command) (seen_of (gave name b ∷ reads) faults faults_now written written writes writes_now) (Err NoMemory))
+    none_since old old (λ reads. Explains {T = T} (Some command) (seen_of (gave name b ∷ reads) faults faults_now written written writes writes_now) (Err NoMemory))
     refl (record { order = first_read command name rest named (Some b); cause = refl })
 
 -- ---- texts that are made whole
@@ -185,14 +185,14 @@ generated_reading number =
     record { unread = []; in_order = refl; given = λ k l. absurd (omega (arith, l)); right = λ k l. absurd (omega (arith, l)) }
 
 -- its text is made of no file
-pub generated_made : (number : ℕ) (old new : List Answer) (text : Result (Vec ℕ Global) Failure) → new ≡ old
+generated_made : (number : ℕ) (old new : List Answer) (text : Result (Vec ℕ Global) Failure) → new ≡ old
     → IfOk text (λ t. IsGenerated number t.items) → IfOk text (λ t. Since old new (λ reads. IsMade (gen number) reads t.items))
 generated_made number old new (Ok t) e is =
     none_since old new (λ reads. IsMade (gen number) reads t.items) e (record { order = generated_reading number; given = refl; written = is })
 generated_made number old new (Err f) e is = tt
 
 -- and why it isn't made
-pub generated_fails : (number : ℕ) (old new : List Answer) (faults faults_now : ℕ) (text : Result (Vec ℕ Global) Failure) → new ≡ old
+generated_fails : (number : ℕ) (old new : List Answer) (faults faults_now : ℕ) (text : Result (Vec ℕ Global) Failure) → new ≡ old
     → IfErr text (TextFails (generated.source number))
     → IfErr text (λ f. Since old new (λ reads. Fails (gen number) reads faults faults_now f))
 generated_fails number old new faults faults_now (Ok t) e w = tt
@@ -205,3 +205,14 @@ generated_fails number old new faults faults_now (Err f) e w =
     fails ReadFault w = absurd w
     fails WriteFault w = absurd w
     fails NoMemory w = record { order = generated_reading number; cause = tt }
+
+-- so what explains its outcome
+pub generated_explains : {T : Type 0} (number : ℕ) (old : List Answer) (faults faults_now : ℕ) (written written_now : Option (List ℕ))
+    (writes writes_now : ℕ) (text : Result (Vec ℕ Global) Failure) (r : Result T Failure)
+    → IfOk text (λ t. IsGenerated number t.items) → IfErr text (TextFails (generated.source number))
+    → IfOk text (λ t. Streamed (λ bytes. bytes ≡ t.items) written written_now writes writes_now r)
+    → IfErr text (λ f. (r ≡ Err f) × (written_now ≡ written))
+    → Since old old (λ reads. Explains (Some (gen number)) (seen_of reads faults faults_now written written_now writes writes_now) r)
+generated_explains number old faults faults_now written written_now writes writes_now text r is wrong =
+    text_explains (gen number) old old faults faults_now written written_now writes writes_now text r
+    (generated_made number old old text refl is) (generated_fails number old old faults faults_now text refl wrong)

@@ -1,14 +1,11 @@
--- Why a file is not there, from what its read and its reader answered.
+-- Why a file is not there, from what its reader answered of its text.
 use Rattle.std.proofs.Common.{◌≡◌, ℕ, List, [], ◌∷◌, ◌++◌, sym, subst}
-use Rattle.std.specs.Prelude.{Some, None, Result, Err}
+use Rattle.std.specs.Prelude.{Some, Err}
 use Rattle.pdl_kit.specs.declared.rule.Rule.{Rule}
-use Rattle.pdl_kit.specs.declared.files.ReadError.{ReadError}
-use Rattle.pdl_kit.specs.declared.files.ReadError.TheVariants.{Failed, NoMemory as read_memory}
 use Rattle.pdl_kit.specs.declared.refusal.Refusal.{Refusal}
 use Rattle.pdl_kit.specs.declared.refusal.Refusal.TheVariants as check
 use Rattle.pdl_kit.specs.declared.mem_info.MemInfo.{MemInfo}
-use Rattle.pdl_system.specs.Answers.{Answer, gave, failed}
-use Rattle.pdl_system.specs.Files.{ReadHasCause}
+use Rattle.pdl_system.specs.Answers.{Answer, gave}
 use Rattle.pdl_check.specs.Answers.{IsCause}
 use Rattle.pdl_image.specs.Images.{IsRefusal, image}
 use Rattle.pdl_image.specs.Delays.{delays}
@@ -26,16 +23,10 @@ use Rattle.pdl_asm.specs.declared.asm_error.AsmError.{AsmError}
 use Rattle.pdl_asm.specs.declared.asm_error.AsmError.TheVariants as asm
 use Rattle.pdl_cli_failure.specs.declared.failure.Position.{Position}
 use Rattle.pdl_cli_failure.specs.declared.failure.Failure.{Failure}
-use Rattle.pdl_cli_failure.specs.Failures.{of_read, of_check, of_file, of_netlist, of_table, of_asm}
+use Rattle.pdl_cli_failure.specs.Failures.{of_check, of_file, of_netlist, of_table, of_asm}
 use Rattle.pdl_cli_commands.specs.Begun.{FileFails, IsRefusedSource, IsRefusedImage, IsRefusedTable, IsRefusedProgram, IsRefusedNetlist, AreRefusedDelays}
 
 module _ (old new : List Answer) (before now : ℕ) (name : List ℕ) where
-  -- the file wasn't read
-  pub read_off : {T : Type 0} (refused : List ℕ → Rule → Position → Type 0) (e : ReadError) (f : Failure) → f ≡ of_read e
-      → new ≡ old ++ failed name ∷ [] → ReadHasCause {T} before now (Err e) → FileFails refused old new before now name f
-  read_off refused Failed f is none cause = subst (FileFails refused old new before now name) (sym is) (none, cause)
-  read_off refused read_memory f is none cause = subst (FileFails refused old new before now name) (sym is) (None, none)
-
   module _ (text : List ℕ) (read : new ≡ old ++ gave name text ∷ []) where
     -- its text is no accepted source
     pub source_refused : (e : Refusal) (f : Failure) → f ≡ of_check e → IsCause text e → FileFails IsRefusedSource old new before now name f

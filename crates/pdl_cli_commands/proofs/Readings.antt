@@ -26,14 +26,14 @@ pub texts_append : (rs bs : List Answer) → texts (rs ++ bs) ≡ texts rs ++ te
 texts_append [] bs = refl
 texts_append (a ∷ rs) bs = ap (with_text a.bytes) (texts_append rs bs) ∙ with_text_append a.bytes (texts rs) (texts bs)
 
+one_text_more : (o : Option (List ℕ)) (ts : List (List ℕ)) (n : ℕ) → length ts ≤ n → length (with_text o ts) ≤ suc n
+one_text_more None ts n h = omega (arith, h)
+one_text_more (Some t) ts n h = omega (arith, h)
+
 -- no more texts than reads
 pub few_texts : (rs : List Answer) → length (texts rs) ≤ length rs
 few_texts [] = omega arith
-few_texts (a ∷ rs) = let few = few_texts rs in one_more a.bytes few
-  where
-    one_more : {n : ℕ} {ts : List (List ℕ)} (o : Option (List ℕ)) → length ts ≤ n → length (with_text o ts) ≤ suc n
-    one_more None h = omega (arith, h)
-    one_more (Some t) h = omega (arith, h)
+few_texts (a ∷ rs) = one_text_more a.bytes (texts rs) (length rs) (few_texts rs)
 
 at_most : (k : ℕ) (rs : List Answer) → length (take k rs) ≤ k
 at_most zero rs = omega arith

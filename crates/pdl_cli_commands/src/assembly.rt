@@ -15,7 +15,7 @@ use pdl_system::Files;
 use std::alloc::Global;
 
 // Reads the table of an instruction set.
-#[tactic(auto, using(crate::proofs::FileFailures::read_off, crate::proofs::FileFailures::table_refused))]
+#[tactic(auto, using(crate::proofs::FileFailures::table_refused))]
 fn table_of_file<F: Files>(alloc: Global, files: &mut F, name: &str) -> Result<Table, Failure>
     requires { IsTrue (F.may files.old name.now) }
     ensures ok { IfOk result (λ t. (b : List ℕ)
@@ -34,7 +34,7 @@ fn table_of_file<F: Files>(alloc: Global, files: &mut F, name: &str) -> Result<T
 }
 
 // The image of the program with this name, by a table.
-#[tactic(auto, using(crate::proofs::FileFailures::read_off, crate::proofs::FileFailures::program_refused))]
+#[tactic(auto, using(crate::proofs::FileFailures::program_refused))]
 fn assemble_file<F: Files>(
     alloc: Global,
     files: &mut F,
@@ -58,7 +58,6 @@ fn assemble_file<F: Files>(
 }
 
 /// The text that `asm` writes for the table of an instruction set and a program with these names.
-#[tactic(auto, using(crate::proofs::Starts::assembled, crate::proofs::Starts::program_off, crate::proofs::Starts::table_off))]
 pub fn assembly_text<F: Files>(
     alloc: Global,
     files: &mut F,

@@ -30,7 +30,6 @@ fn text_of(alloc: Global, accepted: &Accepted) -> Result<Vec<u8>, NoMemory>
 }
 
 /// The text that `build` writes for a source with this name.
-#[tactic(auto, using(crate::proofs::Starts::source_off))]
 pub fn build<F: Files>(alloc: Global, files: &mut F, source: &str) -> Result<Vec<u8>, Failure>
     requires { IsTrue (F.may files.old source.now) }
     ensures ok { IfOk result (λ t. Since (F.answers files.old) (F.answers files.new)

@@ -29,7 +29,7 @@ use std::alloc::Global;
 use std::mem::drop;
 
 /// Reads and checks a source.
-#[tactic(auto, using(crate::proofs::FileFailures::read_off, crate::proofs::FileFailures::source_refused))]
+#[tactic(auto, using(crate::proofs::FileFailures::source_refused))]
 pub fn accept<F: Files>(alloc: Global, files: &mut F, name: &str) -> Result<Accepted, Failure>
     requires { IsTrue (F.may files.old name.now) }
     ensures ok { IfOk result (λ a. (b : List ℕ)
@@ -48,7 +48,7 @@ pub fn accept<F: Files>(alloc: Global, files: &mut F, name: &str) -> Result<Acce
 }
 
 /// Reads an image for the memories of a pipe.
-#[tactic(auto, using(crate::proofs::FileFailures::read_off, crate::proofs::FileFailures::image_refused))]
+#[tactic(auto, using(crate::proofs::FileFailures::image_refused))]
 pub fn load<F: Files>(
     alloc: Global,
     files: &mut F,
@@ -98,7 +98,6 @@ fn verdict_of(alloc: Global, accepted: &Accepted) -> Result<Vec<u8>, NoMemory>
 }
 
 /// The text that `check` writes for a source with this name.
-#[tactic(auto, using(crate::proofs::Starts::source_off))]
 pub fn verdict<F: Files>(alloc: Global, files: &mut F, source: &str) -> Result<Vec<u8>, Failure>
     requires { IsTrue (F.may files.old source.now) }
     ensures ok { IfOk result (λ t. Since (F.answers files.old) (F.answers files.new)

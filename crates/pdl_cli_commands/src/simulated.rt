@@ -18,7 +18,7 @@ use pdl_vread::read_verilog;
 use std::alloc::Global;
 
 // Reads a netlist.
-#[tactic(auto, using(crate::proofs::FileFailures::read_off, crate::proofs::FileFailures::netlist_refused))]
+#[tactic(auto, using(crate::proofs::FileFailures::netlist_refused))]
 fn netlist_of_file<F: Files>(alloc: Global, files: &mut F, name: &str) -> Result<Netlist, Failure>
     requires { IsTrue (F.may files.old name.now) }
     ensures ok { IfOk result (λ n. (b : List ℕ)

@@ -25,7 +25,7 @@ pub struct RunStart {
 }
 
 // Reads an image for the memories of a netlist.
-#[tactic(auto, using(crate::proofs::FileFailures::read_off, crate::proofs::FileFailures::image_refused))]
+#[tactic(auto, using(crate::proofs::FileFailures::image_refused))]
 fn read_words<F: Files>(
     alloc: Global,
     files: &mut F,
@@ -51,7 +51,7 @@ fn read_words<F: Files>(
 }
 
 // Reads a delay file for so many delayed memories.
-#[tactic(auto, using(crate::proofs::FileFailures::read_off, crate::proofs::FileFailures::delays_refused))]
+#[tactic(auto, using(crate::proofs::FileFailures::delays_refused))]
 fn read_rows<F: Files>(
     alloc: Global,
     files: &mut F,

@@ -1,8 +1,6 @@
-use Rattle.std.proofs.Common.{◌≡◌, map, ap, sym, subst}
-use Rattle.std.specs.Prelude.{string_bytes, Option, Some}
-use Rattle.pdl_system.specs.Answers.{Since}
-use Rattle.pdl_cli_args.specs.Line.{Command, line}
-use Rattle.pdl_cli_commands.specs.Outcomes.{seen_of, Explains}
+use Rattle.std.proofs.Common.{map, ap}
+use Rattle.std.specs.Prelude.{string_bytes, Err}
+use Rattle.pdl_cli_args.specs.Line.{line}
 use Rattle.pdl_cli.proofs.Words.{words_fail}
 use Rattle.pdl_cli.proofs.program.obey.Goals as goal
 
@@ -11,4 +9,4 @@ returns-in-Err-clause-explained g c =
     words_fail (line (map string_bytes c.args.words.now.items)) c.in-Err.error c.from.result (g.F.Files.answers c.args.files.now)
     (g.F.Files.faults c.args.files.now) (g.F.Files.faults c.args.files.now) (g.O.Sink.written c.args.out.now)
     (g.O.Sink.faults c.args.out.now) (g.O.Sink.faults c.args.out.now) c.from.ensures
-    (λ e. c.in-Err.ensures.usage e)
+    (λ e. rw (← c.as_slice.ensures) (c.in-Err.ensures.usage (ap (λ x. Err x) e)))
