@@ -2,5 +2,5 @@ pub mod ExitStatus
 pub mod Refusals
 pub mod SameRun
 pub mod ToldFiles
-pub mod Words
+pub mod WordFaults
 pub mod CycleLimits

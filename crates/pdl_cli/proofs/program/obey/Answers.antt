@@ -1,7 +1,7 @@
 use Rattle.std.proofs.Common.{◌≡◌, map, ap}
 use Rattle.std.specs.Prelude.{string_bytes, Err}
 use Rattle.pdl_cli_args.specs.Line.{line}
-use Rattle.pdl_cli.proofs.Words.{words_fail}
+use Rattle.pdl_cli.proofs.WordFaults.{words_fail}
 use Rattle.pdl_cli.proofs.program.obey.Goals as goal
 
 pub returns-in-Err-clause-explained : goal.returns-in-Err-clause-explained
