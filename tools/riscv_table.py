@@ -14,7 +14,7 @@ import tempfile
 
 import riscv_board
 import usage
-from riscv_cores import DELAYED, FIVE, GUESS, LOCK_OF_X, MULTIPLIES, OPERANDS, SINGLE, TRAPS, UPDATED, VERIFY_LATER, Figures, expected, put_table
+from riscv_cores import BUFFER, COUNTERS, DELAYED, FIVE, GUESS, LOCK_OF_X, MULTIPLIES, OPERANDS, SINGLE, TRAPS, UPDATED, VERIFY_LATER, Figures, expected, put_table
 
 BEHIND = (r"(?m)^    next = spec_call\(.*\);$", "    next = spec_call(pc + 32'd4);")
 
@@ -34,8 +34,10 @@ ROWS = (
     ("the same, `queue(4)`", GUESS, with_lock("queue(4)")),
     ("the same, guessed behind", GUESS, BEHIND),
     ("the same, verified in memory", GUESS, VERIFY_LATER),
+    ("with a table of counters", COUNTERS, None),
     ("with delayed memories", DELAYED, None),
     ("with a second guess", UPDATED, None),
+    ("with a branch target buffer", BUFFER, None),
     ("with a multiplier", MULTIPLIES, None),
     ("with traps", TRAPS, None),
 )
@@ -74,7 +76,7 @@ def main():
     program = usage.program(program)
     if more not in ([], ["--write"]):
         usage.ends(f"`{more[0]}` is no word of it")
-    with tempfile.TemporaryDirectory() as folder, concurrent.futures.ThreadPoolExecutor(os.cpu_count()) as workers:
+    with tempfile.TemporaryDirectory() as folder, concurrent.futures.ThreadPoolExecutor(len(os.sched_getaffinity(0))) as workers:
         made = [workers.submit(sizes, program, core, change) for _, core, change in ROWS]
         figures = Figures(program, folder)
         ran = [speeds(figures, core, change) for _, core, change in ROWS]
