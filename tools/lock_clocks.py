@@ -71,7 +71,7 @@ def entry(program, pipe, lock):
         text = ran([program, "build", "lock.pdl"], folder)
         (folder / "lock.v").write_text(text)
         (folder / "top.v").write_text(wrapped(text))
-        cells = ran(["yosys", "-p", "read_verilog top.v lock.v; synth_ice40 -top top -json top.json; stat"], folder)
+        cells = ran(["yosys", "-p", "read_verilog top.v lock.v; synth_ice40 -abc9 -device hx -top top -json top.json; stat"], folder)
         tables = int(re.findall(r"SB_LUT4 +(\d+)", cells)[-1])
         flops = sum(map(int, re.findall(r"SB_DFF\w* +(\d+)", cells.rsplit("Printing statistics", 1)[-1])))
         path = sum(longest(folder, seed) for seed in SEEDS) / len(SEEDS)

@@ -81,7 +81,7 @@ def make(pdl, core, image, lamps, folder, change=lambda text: text):
     (folder / "core.v").write_text(with_contents(text, image, folder))
     module = re.search(r"^module (\w+)\(", text, re.M)[1]
     (folder / "top.v").write_text((HERE / WRAPPERS[core]).read_text().replace("pdl_rv32i ", module + " "))
-    synthesis = ("read_verilog top.v core.v; chparam -set LAMPS %d top; synth_ice40 -top top -json top.json; "
+    synthesis = ("read_verilog top.v core.v; chparam -set LAMPS %d top; synth_ice40 -abc9 -device hx -top top -json top.json; "
                  "write_verilog -noattr netlist.v; tee -o cells.txt stat" % lamps)
     run(["yosys", "-p", synthesis], folder, "yosys.log")
     log = place(folder, 1, "top")
