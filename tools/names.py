@@ -169,6 +169,11 @@ def registers(text):
     return set(re.findall(r"^reg \[\d+:0\] (r\d+);$", text, re.M))
 
 
+def widths(text):
+    """The width of each register and cell of a text."""
+    return {net: int(high) + 1 for high, net in re.findall(r"^(?:reg|wire) \[(\d+):0\] ([rn]\d+);$", text, re.M)}
+
+
 def ports(text):
     """The output ports of a text with the nets that they show, by their groups."""
     found = {}

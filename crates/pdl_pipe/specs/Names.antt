@@ -1,5 +1,5 @@
 -- What the nets of a netlist stand for: what each shows of the machine's threads, in each cycle of each run.
-use Rattle.std.specs.Prelude.{◌≡◌, ℕ, ◌<◌, Bool, true, List, [], ◌∷◌, map, length, slice_index, cond, Contains, ◌⊎◌, Some, is_some, ⊤}
+use Rattle.std.specs.Prelude.{◌≡◌, ℕ, ◌<◌, Bool, true, List, [], ◌∷◌, length, slice_index, cond, Contains, ◌⊎◌, Some, is_some, ⊤}
 use Rattle.pdl_word.specs.Each.{Each}
 use Rattle.pdl_word.specs.Words.{bit}
 use Rattle.pdl_semantics.specs.Tree as tree
@@ -36,15 +36,15 @@ value_after n image schedule bits x = net_value (circuit_of n) (state_in (held_a
 abbrev pub IsLive : Pipe → Role → Type 0
 IsLive p (Holds k) = k < length p.stages
 IsLive p (Moves k) = k < length p.stages
-IsLive p (Keeps k x) = (k < length p.stages) × (lives_from p k x ≡ true)
-IsLive p (Ends k x) = (k < length p.stages) × (lives_from p k x ≡ true)
+IsLive p (Keeps k x) = (k < length p.stages) × (x < p.vars) × (lives_from p k x ≡ true)
+IsLive p (Ends k x) = (k < length p.stages) × (x < p.vars) × (lives_from p k x ≡ true)
 IsLive p (Guess k i) = (k < length p.stages) × (i < length p.start) × (verifies_from p k ≡ true)
-IsLive p (Marked k h m a) = k < length p.stages
-IsLive p (Ticket k m) = k < length p.stages
-IsLive p (Lock m i) = m < length p.mems
-IsLive p (Port m i) = m < length p.mems
-IsLive p (Order k i) = k < length p.stages
-IsLive p (Tail k m) = k < length p.stages
+IsLive p (Marked k h m a) = ⊤
+IsLive p (Ticket k m) = ⊤
+IsLive p (Lock m i) = ⊤
+IsLive p (Port m i) = ⊤
+IsLive p (Order k i) = ⊤
+IsLive p (Tail k m) = ⊤
 
 -- a number is what a role says of a state of the machine with these replies: whether a stage holds a thread, and whether that moves; a variable of the thread as it was kept, and, where the locks let the thread move, after the statements of its stage; an argument of its guess. Of the registers of marks, tickets, locks, ports, orders and tails nothing is said
 abbrev pub IsShown : Pipe → machine.State → List Bool → Role → ℕ → Type 0
@@ -77,7 +77,7 @@ pub record IsName (p : tree.Pipe) (n : Netlist) (x : NamedNet) : Type 0 where
 
 -- some net is named for a role
 abbrev pub IsNamed : List NamedNet → Role → Type 0
-IsNamed names role = Contains (map (λ (x : NamedNet). x.role) names) role
+IsNamed names role = (y : Net) × Contains names (record { net = y; role = role })
 
 -- what the net that keeps a variable shows is the variable after the stage's statements too
 abbrev pub IsPassed : tree.Pipe → Netlist → List NamedNet → ℕ → ℕ → Type 0

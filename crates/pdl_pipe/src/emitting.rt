@@ -87,7 +87,7 @@ fn emit_steps<L: LockModule>(
         orders,
         tails: &steps.tails,
     };
-    names_of(alloc, &parts)
+    names_of(alloc, b, &parts)
 }
 
 // Who moves, and all that follows from it; of the line neither moves nor removals are looked at.
