@@ -1,5 +1,6 @@
 // The netlist of a pipe.
-ghost use Rattle.std.specs.Prelude.{◌≡◌, ◌≢◌, ◌++◌, true, false, All, AllPairs, IfOk, OnOk, filter};
+ghost use Rattle.std.specs.Prelude.{◌≡◌, ◌≢◌, ◌++◌, true, false, AllPairs, IfOk, OnOk, filter};
+ghost use Rattle.pdl_word.specs.Each.{Each};
 ghost use Rattle.pdl_syntax_tree.specs.View.{pipe_view};
 ghost use Rattle.pdl_form.specs.Form.{form_of};
 ghost use Rattle.pdl_net.specs.Circuit.{circuit_of};
@@ -83,7 +84,7 @@ fn compile_with<L: LockModule + Copy>(
 
 // The names of nets that are kept, by their new numbers.
 fn kept_names(alloc: Global, kept: &Kept, names: &[NamedNet]) -> Result<Vec<NamedNet>, NoMemory>
-    requires { All (λ x. IsWithin kept.now x.net) names.now }
+    requires { Each (λ x. IsWithin kept.now x.net) names.now }
     ensures { IfOk result (λ ns. ns.items ≡ names_kept kept.now names.now) }
 {
     let mut found = Vec::new(alloc);

@@ -5,7 +5,7 @@ use Rattle.pdl_form_types.proofs.FormTyping.{typed_whole}
 use Rattle.pdl_form_types.specs.Stmts.{AreTypedMems}
 use Rattle.pdl_lock_kinds.specs.AskedLocks.{AreInTime, AreSizedLocks}
 use Rattle.pdl_pipe.proofs.LocksAllowed.{sized_locks, locks_in_time, suited_as}
-use Rattle.pdl_pipe.proofs.netlist.compile.Goals as goal
+use Rattle.pdl_pipe.proofs.netlist.compile_named.Goals as goal
 
 pub locks_of-requires-clause-mems : goal.locks_of-requires-clause-mems
 locks_of-requires-clause-mems c =
