@@ -5,7 +5,7 @@
 
 NAMES is the program `pdl_names`, which writes the text of `pdl build` and below it what its nets stand for. Each stage, each
 memory and its ports come with a line for each net: its name in the text, and what it is. A variable is named as in the
-source where a register keeps it for the stage's thread, and with `_out` where the stage's statements make it. docs/names.md
+source, with `_out` behind it as the stage's statements leave it where a register of the stage keeps it too. docs/names.md
 has all words. tools/testbench.py puts the same names into a bench and its dump.
 """
 
@@ -21,6 +21,8 @@ from port_groups import group_of, title
 COMMENT = re.compile(r"// ([inr]\d+) (\w+) (\d+(?: \d+)*)")
 # The parts of a net's name in a text that say that it is a register.
 REGISTER = "r"
+# What is behind the name of a variable as the statements of a stage leave it, where a register of the stage keeps it too.
+OUT = "_out"
 
 
 @dataclass(frozen=True)
@@ -108,7 +110,7 @@ def described(layout, role, numbers):
         case "keeps", (_, variable):
             return stage, names[variable].name, names[variable].about
         case "ends", (_, variable):
-            return stage, f"{names[variable].name}_out", f"{names[variable].about} after the statements"
+            return stage, f"{names[variable].name}{OUT}", f"{names[variable].about} after the statements"
         case "held" | "late", (_, memory, variable):
             location = f"{memories[memory].name}[{names[variable].name}]"
             about = "is reserved for writing" if role == "held" else "is the thread's second reservation of the memory"
@@ -152,10 +154,16 @@ def netlist(program, source):
 
 
 def named(layout, roles):
-    """The nets with their names, those of a stage or a memory together; what a stage keeps that never changes is left out."""
+    """The nets with their names, those of a stage or a memory together; what a stage keeps that never changes is left out.
+
+    A variable that a stage's statements make has its plain name where no register of the stage keeps it.
+    """
     found, taken = [], {}
+    kept = {numbers for net, role, numbers in roles if role == "keeps" and net.startswith(REGISTER)}
     for net, role, numbers in roles:
         group, label, about = described(layout, role, numbers)
+        if role == "ends" and numbers not in kept:
+            label = label.removesuffix(OUT)
         if role in ("keeps", "guess") and not net.startswith(REGISTER) or role in ("holds", "moves"):
             continue
         within = taken.setdefault(group, {"thread", "instruction"})

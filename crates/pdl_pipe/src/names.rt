@@ -111,9 +111,9 @@ fn name_var(
     ensures adds { OnOk result (AddsNames b.now line.now names.old.items names.new.items) }
     ensures has { OnOk result (HasVarNames b.now line.now names.new.items stage var) }
 {
-    let s = stage_of(line, stage);
-    let kept = variable(b, s.vars.as_slice(), var);
-    let ended = variable(b, s.end.vars.as_slice(), var);
+    let here = stage_of(line, stage);
+    let kept = variable(b, here.vars.as_slice(), var);
+    let ended = variable(b, here.end.vars.as_slice(), var);
     name(names, kept, Role::Keeps { stage, var })?;
     if !are_same(kept, ended) {
         name(names, ended, Role::Ends { stage, var })?;
