@@ -15,13 +15,12 @@ ghost use Rattle.pdl_net.specs.Run.{nports};
 ghost use Rattle.pdl_net_needed.specs.Needed.{AllNeeded, KeepsNeeded};
 ghost use Rattle.pdl_net_needed.specs.Pruned.{pruned, IsPruned, HasSameFrame};
 
+pub use kept::Kept;
 use marking::needed_marks;
 use parts::pruned_netlist;
 use pdl_kit::NoMemory;
 use pdl_net::Netlist;
 use std::alloc::Global;
-
-pub use kept::Kept;
 
 /// The registers and cells of a netlist that are needed, with the numbers that they have among these.
 pub fn needed(alloc: Global, net: &Netlist) -> Result<Kept, NoMemory>

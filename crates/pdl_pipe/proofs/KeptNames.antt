@@ -54,12 +54,9 @@ module _ (k : Choice) (n : Netlist) (h : IsClosed (circuit_of n) k) (well : IsWe
   all_kept p [] each = tt
   all_kept p (x ∷ xs) each = at (is_kept k x.net) refl
     where
-      abbrev moved : NamedNet
-      moved = record { net = moved_net k x.net; role = x.role }
-
       at : (b : Bool) → is_kept k x.net ≡ b
-          → Each (IsName p (pruned k n)) (cond b (moved ∷ names_kept k xs) (names_kept k xs))
-      at true e = (name_kept p x each.0 (subst (λ b. IsTrue b) (sym e) tt), all_kept p xs each.1)
+          → Each (IsName p (pruned k n)) (cond b (record { net = moved_net k x.net; role = x.role } ∷ names_kept k xs) (names_kept k xs))
+      at true e = (name_kept p x each.0 (subst IsTrue (sym e) tt), all_kept p xs each.1)
       at false e = all_kept p xs each.1
 
 -- a net that is there has a mark, where each register and each cell has one

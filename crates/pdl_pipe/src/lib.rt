@@ -3,10 +3,12 @@
 //! The layer above may use `compile`, and `compile_named`, which tells besides what the registers and cells stand for; and the definitions `Locks` and `Names` of these.
 #![tactic(auto)]
 
+pub mod beside_names;
 mod deeds;
 pub mod emitting;
 pub mod names;
 pub mod netlist;
+pub mod stage_names;
 pub mod steps;
 
 pub use names::{NamedNet, Role};

@@ -1,5 +1,5 @@
 // The netlist of a pipe.
-ghost use Rattle.std.specs.Prelude.{◌≡◌, ◌≢◌, ◌++◌, true, false, AllPairs, IfOk, OnOk, filter};
+ghost use Rattle.std.specs.Prelude.{◌≡◌, ◌≢◌, ◌++◌, ◌∷◌, [], true, false, AllPairs, IfOk, OnOk, filter};
 ghost use Rattle.pdl_word.specs.Each.{Each};
 ghost use Rattle.pdl_syntax_tree.specs.View.{pipe_view};
 ghost use Rattle.pdl_form.specs.Form.{form_of};
@@ -82,6 +82,21 @@ fn compile_with<L: LockModule + Copy>(
     })
 }
 
+// The name of a net, by its new number, if it is kept.
+fn keep_name(found: &mut Vec<NamedNet>, kept: &Kept, x: NamedNet) -> Result<(), NoMemory>
+    requires { IsWithin kept.now x.net }
+    ensures { OnOk result (found.new.items
+        ≡ found.old.items ++ names_kept kept.now (x ∷ [])) }
+{
+    if kept.has(x.net) {
+        found.push(NamedNet {
+            net: kept.net(x.net),
+            role: x.role,
+        })?;
+    }
+    Ok(())
+}
+
 // The names of nets that are kept, by their new numbers.
 fn kept_names(alloc: Global, kept: &Kept, names: &[NamedNet]) -> Result<Vec<NamedNet>, NoMemory>
     requires { Each (λ x. IsWithin kept.now x.net) names.now }
@@ -89,12 +104,7 @@ fn kept_names(alloc: Global, kept: &Kept, names: &[NamedNet]) -> Result<Vec<Name
 {
     let mut found = Vec::new(alloc);
     for x in names {
-        if kept.has(x.net) {
-            found.push(NamedNet {
-                net: kept.net(x.net),
-                role: x.role,
-            })?;
-        }
+        keep_name(&mut found, kept, *x)?;
     }
     Ok(found)
 }

@@ -1,5 +1,5 @@
 use Rattle.pdl_pipe.specs.NamedNets.{AddsNames}
-use Rattle.pdl_pipe.proofs.names.name_row.Given as goal
+use Rattle.pdl_pipe.proofs.beside_names.name_ports.Given as goal
 
 -- names are added
 abbrev pub invariant-loop-mem : goal.invariant-loop-mem

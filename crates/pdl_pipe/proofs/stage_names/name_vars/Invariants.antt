@@ -3,7 +3,7 @@ use Rattle.pdl_pipe_nexts.specs.Lines.{line_pipe}
 use Rattle.pdl_pipe.specs.declared.names.Role.TheVariants.{Keeps}
 use Rattle.pdl_pipe.specs.Names.{IsLive}
 use Rattle.pdl_pipe.specs.NamedNets.{AddsNames, HasVarNames}
-use Rattle.pdl_pipe.proofs.names.name_vars.Given as goal
+use Rattle.pdl_pipe.proofs.stage_names.name_vars.Given as goal
 
 -- names are added, and the first variables have theirs
 abbrev pub invariant-loop-var : goal.invariant-loop-var

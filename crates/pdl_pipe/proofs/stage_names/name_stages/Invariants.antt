@@ -1,6 +1,6 @@
 use Rattle.std.proofs.Common.{ℕ, ◌<◌}
 use Rattle.pdl_pipe.specs.NamedNets.{AddsNames, HasStageNames}
-use Rattle.pdl_pipe.proofs.names.name_stages.Given as goal
+use Rattle.pdl_pipe.proofs.stage_names.name_stages.Given as goal
 
 -- names are added, and the first stages have theirs
 abbrev pub invariant-loop-stage : goal.invariant-loop-stage

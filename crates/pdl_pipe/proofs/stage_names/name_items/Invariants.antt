@@ -1,5 +1,5 @@
 use Rattle.pdl_pipe.specs.NamedNets.{AddsNames}
-use Rattle.pdl_pipe.proofs.names.name_items.Given as goal
+use Rattle.pdl_pipe.proofs.stage_names.name_items.Given as goal
 
 -- names are added
 abbrev pub invariant-loop-item : goal.invariant-loop-item
