@@ -1,5 +1,5 @@
 -- Names that are added one after another, each for what its net is.
-use Rattle.std.proofs.Common.{◌≡◌, ap, ◌∙◌, sym, ℕ, ◌<◌, List, [], ◌∷◌, ◌++◌, length}
+use Rattle.std.proofs.Common.{◌≡◌, ap, ◌∙◌, sym, ℕ, ◌<◌, List, [], ◌∷◌, ◌++◌, length, ◌⊎◌, inl, inr}
 use Rattle.std.specs.Prelude.{Contains}
 use Rattle.std.proofs.lemmas.List.Elements.{Contains-append_left, Contains-push}
 use Rattle.pdl_word.specs.Each.{Each}
@@ -20,7 +20,7 @@ use Rattle.pdl_pipe.specs.declared.names.Role.{Role}
 use Rattle.pdl_pipe.specs.declared.names.Role.TheVariants.{Holds, Moves, Keeps, Ends, Guess, Marked, Ticket, Lock, Port, Order, Tail}
 use Rattle.pdl_pipe.specs.declared.names.NamedNet.{NamedNet}
 use Rattle.pdl_pipe.specs.Names.{IsLive, IsNamed}
-use Rattle.pdl_pipe.specs.NamedNets.{IsUntold, MeansRole, IsNamedIn, AddsNames}
+use Rattle.pdl_pipe.specs.NamedNets.{IsUntold, MeansRole, IsNamedIn, IsPassedIn, HasVarNames, HasStageNames, AddsNames}
 
 -- a net with a role
 abbrev pub with_role : Net → Role → NamedNet
@@ -47,6 +47,23 @@ module _ (c : Circuit) (x : StageLine) where
   -- a role for which some net was named has one still
   pub named_stays : (a b : List NamedNet) (role : Role) → AddsNames c x a b → IsNamed a role → IsNamed b role
   named_stays a b role f h = (h.0, f.stays (with_role h.0 role) h.1)
+
+  -- a variable that had its names has them still
+  pub var_stays : (a b : List NamedNet) (k v : ℕ) → AddsNames c x a b → HasVarNames c x a k v → HasVarNames c x b k v
+  var_stays a b k v f h = record { keeps = named_stays a b (Keeps k v) f h.keeps; ends = at h.ends }
+    where
+      at : IsNamed a (Ends k v) ⊎ IsPassedIn c x a k v → IsNamed b (Ends k v) ⊎ IsPassedIn c x b k v
+      at (inl e) = inl (named_stays a b (Ends k v) f e)
+      at (inr e) = inr (e.0, f.stays (with_role e.0 (Keeps k v)) e.1.0, e.1.1)
+
+  -- so has a stage
+  pub stage_stays : (a b : List NamedNet) (k : ℕ) → AddsNames c x a b → HasStageNames c x a k → HasStageNames c x b k
+  stage_stays a b k f h = record {
+    holds = named_stays a b (Holds k) f h.holds;
+    moves = named_stays a b (Moves k) f h.moves;
+    vars = λ v live. var_stays a b k v f (h.vars v live);
+    guess = λ i live. named_stays a b (Guess k i) f (h.guess i live);
+  }
 
   -- ---- of which nothing is told
 

@@ -101,10 +101,10 @@ pub(crate) fn name_reg(
     requires { IsUntold role }
     ensures { OnOk result (AddsNames b.now line.now names.old.items names.new.items) }
 {
-    if r < b.reg_count() {
-        name(names, Net::Reg(r), role)?;
+    if r >= b.reg_count() {
+        return Ok(());
     }
-    Ok(())
+    name(names, Net::Reg(r), role)
 }
 
 /// The name of a net that is a register, of a role of which nothing is told.
