@@ -221,7 +221,8 @@ fn name_tails(
         return Ok(());
     };
     name_before(b, names, line, tails)?;
-    name_row(b, names, line, tails.last.as_slice(), verify)
+    name_row(b, names, line, tails.last.as_slice(), verify)?;
+    Ok(())
 }
 
 /// What stands beside the stages.
@@ -235,5 +236,6 @@ pub(crate) fn name_beside<L>(
     name_locks(b, names, parts.line, parts.locks)?;
     name_ports(b, names, parts.line, parts.line.shared.ports)?;
     name_orders(b, names, parts.line, parts.orders)?;
-    name_tails(b, names, parts.line, parts.tails)
+    name_tails(b, names, parts.line, parts.tails)?;
+    Ok(())
 }

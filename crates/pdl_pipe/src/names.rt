@@ -104,7 +104,8 @@ pub(crate) fn name_reg(
     if r >= b.reg_count() {
         return Ok(());
     }
-    name(names, Net::Reg(r), role)
+    name(names, Net::Reg(r), role)?;
+    Ok(())
 }
 
 /// The name of a net that is a register, of a role of which nothing is told.

@@ -98,7 +98,8 @@ fn name_argument(
     ensures has { OnOk result (IsNamed names.new.items (Guess stage place)) }
 {
     let net = variable(b, stage_of(line, stage).guess.as_slice(), place);
-    name(names, net, Role::Guess { stage, place })
+    name(names, net, Role::Guess { stage, place })?;
+    Ok(())
 }
 
 // The arguments of the guess, where a stage from this one on verifies it.
@@ -193,8 +194,10 @@ fn name_thread(
     ensures moves { OnOk result (IsNamed names.new.items (Moves stage)) }
 {
     let valid = Net::Reg(stage_of(line, stage).regs.valid);
+    let moves = variable(b, line.moves, stage);
     name(names, valid, Role::Holds { stage })?;
-    name(names, variable(b, line.moves, stage), Role::Moves { stage })
+    name(names, moves, Role::Moves { stage })?;
+    Ok(())
 }
 
 // A stage.
@@ -214,7 +217,8 @@ fn name_stage(
     name_thread(b, names, line, stage)?;
     name_vars(b, names, line, needs, stage)?;
     name_guess(b, names, line, needs, stage)?;
-    name_items(b, names, line, stage)
+    name_items(b, names, line, stage)?;
+    Ok(())
 }
 
 /// All stages.
