@@ -1,7 +1,9 @@
 -- The text of a source's netlist with the names of its nets.
-use Rattle.std.specs.Prelude.{◌≡◌, ℕ, List, [], ◌∷◌, ◌++◌, flat_map, codes, decimal, Option}
+use Rattle.std.specs.Prelude.{◌≡◌, ℕ, List, [], ◌∷◌, ◌++◌, flat_map, codes, decimal, Option, None}
 use Rattle.pdl_kit.specs.Files.{Held, Gives}
 use Rattle.pdl_semantics.specs.Tree.{Pipe}
+use Rattle.pdl_syntax_grammar.specs.Text.{IsText}
+use Rattle.pdl_rules.specs.Refusal.{refusal}
 use Rattle.pdl_net.specs.declared.Net.{Net}
 use Rattle.pdl_net.specs.declared.Net.TheVariants.{Input, Reg, Cell}
 use Rattle.pdl_net.specs.declared.Netlist.{Netlist}
@@ -47,14 +49,27 @@ role_text (Tail k m) = words_text (codes "tail") (k ∷ m ∷ [])
 abbrev pub name_text : NamedNet → List ℕ
 name_text x = codes "// " ++ net_text x.net ++ role_text x.role ++ codes "\n"
 
+-- the comments that name nets
+abbrev pub names_text : List NamedNet → List ℕ
+names_text names = flat_map name_text names
+
 -- the text of a netlist that follows a pipe, and below it the names of its nets
 pub record IsNamedText (p : Pipe) (text : List ℕ) : Type 0 where
   pub netlist : Netlist
   pub names : List NamedNet
   pub follows : Follows p netlist
   pub named : AreNames p netlist names
-  pub text : text ≡ verilog netlist ++ flat_map name_text names
+  pub text : text ≡ verilog netlist ++ names_text names
 
--- what is written for a source with this name: of a text that a pipe is read from and that breaks no rule
-abbrev pub IsNamed : Option Held → List ℕ → List ℕ → Type 0
-IsNamed holds source text = (b : List ℕ) × Gives holds source b × ((p : Pipe) × IsNamedText p text)
+-- a text is that of a pipe that breaks no rule
+pub record IsAccepted (source : List ℕ) (p : Pipe) : Type 0 where
+  pub text : IsText source p
+  pub kept : refusal source p ≡ None
+
+-- what is written for a source with this name
+pub record IsNamed (holds : Option Held) (source text : List ℕ) : Type 0 where
+  pub pipe : Pipe
+  pub source_text : List ℕ
+  pub source_given : Gives holds source source_text
+  pub accepted : IsAccepted source_text pipe
+  pub written : IsNamedText pipe text

@@ -1,6 +1,6 @@
 // The comments that name nets.
-ghost use Rattle.std.specs.Prelude.{◌≡◌, ◌++◌, OnOk, codes, decimal, flat_map, map};
-ghost use Rattle.pdl_names_text.specs.Texts.{net_text, role_text, name_text, words_text};
+ghost use Rattle.std.specs.Prelude.{◌≡◌, ◌++◌, OnOk, codes, decimal};
+ghost use Rattle.pdl_names_text.specs.Texts.{net_text, role_text, name_text, names_text, words_text};
 
 use itoa::Buffer;
 use pdl_kit::NoMemory;
@@ -93,7 +93,7 @@ fn push_name(text: &mut Vec<u8>, x: NamedNet) -> Result<(), NoMemory>
 
 /// The comments of names.
 pub fn push_names(text: &mut Vec<u8>, names: &[NamedNet]) -> Result<(), NoMemory>
-    ensures { OnOk result (text.new.items ≡ text.old.items ++ flat_map name_text names.now) }
+    ensures { OnOk result (text.new.items ≡ text.old.items ++ names_text names.now) }
 {
     for x in names {
         push_name(text, *x)?;

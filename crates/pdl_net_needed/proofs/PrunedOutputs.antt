@@ -1,6 +1,6 @@
 -- A pruned netlist shows the same.
 use Rattle.std.proofs.Common.{◌≡◌, ℕ, zero, suc, ◌<◌, ◌+◌, Bool, true, false, List, [], ◌∷◌, ◌++◌, length, map, filter_map, drop, get_or, Some, refl, ap, ◌∙◌, arith, cond, bytes_eq, codes}
-use Rattle.std.specs.Prelude.{slice_get, slice_set, slice_index_or, ◌==◌, if◌then◌else◌, ◌/◌}
+use Rattle.std.specs.Prelude.{slice_set, slice_index_or, ◌==◌, if◌then◌else◌, ◌/◌}
 use Rattle.std.specs.List.{position_from}
 use Rattle.pdl_word.specs.Each.{Each}
 use Rattle.pdl_kit.specs.declared.mem_info.MemInfo.{MemInfo}

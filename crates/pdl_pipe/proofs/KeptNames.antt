@@ -1,5 +1,6 @@
 -- The names of a netlist's needed part.
-use Rattle.std.proofs.Common.{◌≡◌, refl, sym, subst, ℕ, ◌<◌, Bool, true, false, List, [], ◌∷◌, length, cond, arith}
+use Rattle.std.proofs.Common.{◌≡◌, refl, sym, ap, ◌∙◌, subst, ℕ, ◌+◌, ◌<◌, Bool, true, false, List, [], ◌∷◌, ◌++◌, length, drop, get_or, cond, arith}
+use Rattle.std.proofs.lemmas.List.{append_assoc, append-nil, drop_more}
 use Rattle.std.specs.Prelude.{IsTrue}
 use Rattle.pdl_word.specs.Each.{Each}
 use Rattle.pdl_semantics.specs.Tree as tree
@@ -88,3 +89,31 @@ are_names p n q k all names well are_all needed part is = record {
   part = part;
   names = is;
 }
+
+-- ---- one name after the other
+
+-- a name whose net is kept comes to those that are found
+pub kept_one : (k : Choice) (found : List NamedNet) (x : NamedNet) → is_kept k x.net ≡ true
+    → found ++ record { net = moved_net k x.net; role = x.role } ∷ [] ≡ found ++ names_kept k (x ∷ [])
+kept_one k found x e = ap (λ b. found ++ cond b (record { net = moved_net k x.net; role = x.role } ∷ []) []) (sym e)
+
+-- another one doesn't
+pub kept_none : (k : Choice) (found : List NamedNet) (x : NamedNet) → is_kept k x.net ≡ false → found ≡ found ++ names_kept k (x ∷ [])
+kept_none k found x e =
+    sym (append-nil found) ∙ ap (λ b. found ++ cond b (record { net = moved_net k x.net; role = x.role } ∷ []) []) (sym e)
+
+names_first : (k : Choice) (x : NamedNet) (xs : List NamedNet) → names_kept k (x ∷ xs) ≡ names_kept k (x ∷ []) ++ names_kept k xs
+names_first k x xs = at (is_kept k x.net)
+  where
+    at : (b : Bool) → cond b (record { net = moved_net k x.net; role = x.role } ∷ names_kept k xs) (names_kept k xs)
+        ≡ cond b (record { net = moved_net k x.net; role = x.role } ∷ []) [] ++ names_kept k xs
+    at true = refl
+    at false = refl
+
+-- after one more name of a list
+pub names_step : (k : Choice) (all found whole : List NamedNet) (i : ℕ) (d : NamedNet) → i < length all
+    → found ++ names_kept k (drop i all) ≡ whole → (found ++ names_kept k (get_or all i d ∷ [])) ++ names_kept k (drop (i + 1) all) ≡ whole
+names_step k all found whole i d l h =
+    append_assoc found (names_kept k (get_or all i d ∷ [])) (names_kept k (drop (i + 1) all))
+    ∙ ap (λ (ys : List NamedNet). found ++ ys) (sym (names_first k (get_or all i d) (drop (i + 1) all)))
+    ∙ ap (λ (ys : List NamedNet). found ++ names_kept k ys) (sym (drop_more all i d l)) ∙ h

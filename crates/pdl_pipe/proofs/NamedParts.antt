@@ -1,6 +1,7 @@
 -- Names that are added one after another, each for what its net is.
-use Rattle.std.proofs.Common.{◌≡◌, ap, ◌∙◌, sym, ℕ, ◌<◌, List, [], ◌∷◌, ◌++◌, length, ◌⊎◌, inl, inr}
+use Rattle.std.proofs.Common.{◌≡◌, ap, ◌∙◌, sym, ℕ, ◌<◌, List, [], ◌∷◌, ◌++◌, length, take, ◌⊎◌, inl, inr, arith}
 use Rattle.std.specs.Prelude.{Contains}
+use Rattle.std.proofs.lemmas.List.{length-take}
 use Rattle.std.proofs.lemmas.List.Elements.{Contains-append_left, Contains-push}
 use Rattle.pdl_word.specs.Each.{Each}
 use Rattle.pdl_word.proofs.Each.{each_push}
@@ -10,12 +11,13 @@ use Rattle.pdl_net.specs.declared.Net.TheVariants.{Reg as RegNet}
 use Rattle.pdl_net.specs.Circuit.{Circuit}
 use Rattle.pdl_net.specs.Meaning.{IsThere, Means, signal}
 use Rattle.pdl_law_parts.specs.Views.{View}
-use Rattle.pdl_pipe_exprs.specs.Nets.{signals_in, signal_at}
+use Rattle.pdl_pipe_exprs.specs.Nets.{NetsThere, signals_in, signal_at}
 use Rattle.pdl_pipe_registers.specs.declared.nets.StageNets.{StageNets}
 use Rattle.pdl_pipe_registers.specs.Stages.{IsAt}
 use Rattle.pdl_pipe_registers.proofs.Lists.{view_at}
+use Rattle.pdl_pipe_registers.proofs.Begins.{nets_long}
 use Rattle.pdl_pipe_nexts.specs.declared.line.StageLine.{StageLine}
-use Rattle.pdl_pipe_nexts.specs.Lines.{line_pipe, IsLineIn}
+use Rattle.pdl_pipe_nexts.specs.Lines.{line_form, line_pipe, IsLineIn}
 use Rattle.pdl_pipe.specs.declared.names.Role.{Role}
 use Rattle.pdl_pipe.specs.declared.names.Role.TheVariants.{Holds, Moves, Keeps, Ends, Guess, Marked, Ticket, Lock, Port, Order, Tail}
 use Rattle.pdl_pipe.specs.declared.names.NamedNet.{NamedNet}
@@ -25,6 +27,10 @@ use Rattle.pdl_pipe.specs.NamedNets.{IsUntold, MeansRole, IsNamedIn, IsPassedIn,
 -- a net with a role
 abbrev pub with_role : Net → Role → NamedNet
 with_role y role = record { net = y; role = role }
+
+-- the last name is there
+pub last_named : (names : List NamedNet) (y : Net) (role : Role) → IsNamed (names ++ with_role y role ∷ []) role
+last_named names y role = (y, Contains-push names (with_role y role))
 
 module _ (c : Circuit) (x : StageLine) where
   -- ---- one after another
@@ -101,6 +107,31 @@ module _ (c : Circuit) (x : StageLine) where
   -- ---- of a stage
 
   module _ (k : ℕ) (s : StageNets) (low : k < length x.stages.now) (is : IsAt x.stages.now k s) where
+    -- what it keeps of each variable is there
+    pub kept_there : IsLineIn c x → NetsThere c s.vars
+    kept_there line = (line.stages k s low is).nets.vars
+
+    pub kept_long : IsLineIn c x → length s.vars ≡ (line_pipe x).vars
+    kept_long line = nets_long c (line_form x).widths s.vars (line.stages k s low is).nets.vars_wide
+
+    -- so is what its statements leave
+    pub ended_there : IsLineIn c x → NetsThere c s.end.vars.items
+    ended_there line = (line.stages k s low is).walk.there.vars
+
+    pub ended_long : IsLineIn c x → length s.end.vars.items ≡ (line_pipe x).vars
+    ended_long line = nets_long c (line_form x).widths s.end.vars.items (line.stages k s low is).walk.sized.vars
+
+    -- and each argument of its guess
+    pub guess_there : IsLineIn c x → NetsThere c s.guess
+    guess_there line = (line.stages k s low is).nets.guess
+
+    pub guess_long : IsLineIn c x → length s.guess ≡ length (line_pipe x).start
+    guess_long line =
+        let n = nets_long c (take (length (line_pipe x).start) (line_form x).widths) s.guess (line.stages k s low is).nets.guess_wide in
+        let m = length-take (length (line_pipe x).start) (line_form x).widths in
+        let l = line.params in
+        omega (arith, n, m, l)
+
     -- a net that means a variable as the stage begins
     pub keeps_named : (v : ℕ) (y : Net) → IsLive (line_pipe x) (Keeps k v) → Means c y (signal_at (signals_in c s.vars) v)
         → IsNamedIn c x (with_role y (Keeps k v))
@@ -142,6 +173,21 @@ module _ (c : Circuit) (x : StageLine) where
       → IsNamedIn c x (with_role y (Moves k))
   moves_named k y live m = record { there = m.there; live = live; means = m.same }
 
--- the last name is there
-pub last_named : (names : List NamedNet) (y : Net) (role : Role) → IsNamed (names ++ with_role y role ∷ []) role
-last_named names y role = (y, Contains-push names (with_role y role))
+  -- ---- of a variable
+
+  -- a variable that leaves its stage as it is kept has its names by one net
+  pub passed_named : (names : List NamedNet) (k v : ℕ) (y : Net) → MeansRole c x (Ends k v) y
+      → HasVarNames c x (names ++ with_role y (Keeps k v) ∷ []) k v
+  passed_named names k v y m = record {
+    keeps = last_named names y (Keeps k v);
+    ends = inr (y, Contains-push names (with_role y (Keeps k v)), m);
+  }
+
+  -- another one has them by two
+  pub both_named : (names : List NamedNet) (k v : ℕ) (y z : Net)
+      → HasVarNames c x ((names ++ with_role y (Keeps k v) ∷ []) ++ with_role z (Ends k v) ∷ []) k v
+  both_named names k v y z =
+      let more = names ++ with_role y (Keeps k v) ∷ [] in record {
+        keeps = (y, Contains-append_left more (with_role z (Ends k v) ∷ []) (with_role y (Keeps k v)) (Contains-push names (with_role y (Keeps k v))));
+        ends = inl (last_named more z (Ends k v));
+      }

@@ -91,12 +91,13 @@ fn keep_name(found: &mut Vec<NamedNet>, kept: &Kept, x: NamedNet) -> Result<(), 
     ensures { OnOk result (found.new.items
         ≡ found.old.items ++ names_kept kept.now (x ∷ [])) }
 {
-    if kept.has(x.net) {
-        found.push(NamedNet {
-            net: kept.net(x.net),
-            role: x.role,
-        })?;
+    if !kept.has(x.net) {
+        return Ok(());
     }
+    found.push(NamedNet {
+        net: kept.net(x.net),
+        role: x.role,
+    })?;
     Ok(())
 }
 

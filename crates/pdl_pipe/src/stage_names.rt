@@ -34,9 +34,10 @@ fn name_var(
     let kept = variable(b, here.vars.as_slice(), var);
     let ended = variable(b, here.end.vars.as_slice(), var);
     name(names, kept, Role::Keeps { stage, var })?;
-    if !are_same(kept, ended) {
-        name(names, ended, Role::Ends { stage, var })?;
+    if are_same(kept, ended) {
+        return Ok(());
     }
+    name(names, ended, Role::Ends { stage, var })?;
     Ok(())
 }
 

@@ -1,6 +1,5 @@
-use Rattle.std.proofs.Common.{sym, subst, Result, Ok, Err, IfOk, ◌≡◌}
 use Rattle.pdl_net.specs.Circuit.{circuit_of}
-use Rattle.pdl_net_needed.specs.Needed.{Choice, KeepsNeeded}
+use Rattle.pdl_net_needed.specs.Needed.{KeepsNeeded}
 use Rattle.pdl_net_needed.proofs.PrunedFacts.{all_as}
 use Rattle.pdl_net_needed.proofs.needed.Goals as goal
 
