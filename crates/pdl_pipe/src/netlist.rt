@@ -18,7 +18,7 @@ ghost use Rattle.pdl_pipe.specs.Locks.{HasLocks, HasLocksOf, any_lock};
 ghost use Rattle.pdl_pipe.specs.Names.{names_kept, AreAllNames, AreNames};
 
 use crate::emitting::emit_all;
-use crate::names::NamedNet;
+use crate::names::{NamedNet, name};
 use pdl_build::Builder;
 use pdl_check::Accepted;
 use pdl_kit::{MemInfo, NoMemory, Seq};
@@ -94,10 +94,7 @@ fn keep_name(found: &mut Vec<NamedNet>, kept: &Kept, x: NamedNet) -> Result<(), 
     if !kept.has(x.net) {
         return Ok(());
     }
-    found.push(NamedNet {
-        net: kept.net(x.net),
-        role: x.role,
-    })?;
+    name(found, kept.net(x.net), x.role)?;
     Ok(())
 }
 
