@@ -1,7 +1,6 @@
 -- The names of a netlist's needed part.
 use Rattle.std.proofs.Common.{◌≡◌, refl, sym, ap, ◌∙◌, subst, ℕ, ◌+◌, ◌<◌, Bool, true, false, List, [], ◌∷◌, ◌++◌, length, drop, get_or, cond, arith}
 use Rattle.std.proofs.lemmas.List.{append_assoc, append-nil, drop_more}
-use Rattle.std.specs.Prelude.{IsTrue}
 use Rattle.pdl_word.specs.Each.{Each}
 use Rattle.pdl_semantics.specs.Tree as tree
 use Rattle.pdl_semantics.specs.Flatten.{flat}
@@ -57,7 +56,7 @@ module _ (k : Choice) (n : Netlist) (h : IsClosed (circuit_of n) k) (well : IsWe
     where
       at : (b : Bool) → is_kept k x.net ≡ b
           → Each (IsName p (pruned k n)) (cond b (record { net = moved_net k x.net; role = x.role } ∷ names_kept k xs) (names_kept k xs))
-      at true e = (name_kept p x each.0 (subst IsTrue (sym e) tt), all_kept p xs each.1)
+      at true e = (name_kept p x each.0 e, all_kept p xs each.1)
       at false e = all_kept p xs each.1
 
 -- a net that is there has a mark, where each register and each cell has one

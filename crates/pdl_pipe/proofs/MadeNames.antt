@@ -94,4 +94,4 @@ module _ {T : Type 0} (l : Members T) (p : tree.Pipe) (n : Netlist) (emitted : I
       ends_of : (k v : ℕ) → IsLive (flat p) (Ends k v) → IsNamed names (Ends k v) ⊎ IsPassedIn (circuit_of n) x names k v
           → IsNamed names (Ends k v) ⊎ IsPassed p n names k v
       ends_of k v live (inl h) = inl h
-      ends_of k v live (inr h) = inr (h.0, h.1.0, shows_role p n ls vs moves always (Ends k v) h.0 live (means_same (Ends k v) h.0 h.1.1))
+      ends_of k v live (inr h) = inr (h.0, h.1, shows_role p n ls vs moves always (Ends k v) h.0 live (means_same (Ends k v) h.0 h.2))

@@ -60,7 +60,7 @@ module _ (c : Circuit) (x : StageLine) where
     where
       at : IsNamed a (Ends k v) ⊎ IsPassedIn c x a k v → IsNamed b (Ends k v) ⊎ IsPassedIn c x b k v
       at (inl e) = inl (named_stays a b (Ends k v) f e)
-      at (inr e) = inr (e.0, f.stays (with_role e.0 (Keeps k v)) e.1.0, e.1.1)
+      at (inr e) = inr (e.0, f.stays (with_role e.0 (Keeps k v)) e.1, e.2)
 
   -- so has a stage
   pub stage_stays : (a b : List NamedNet) (k : ℕ) → AddsNames c x a b → HasStageNames c x a k → HasStageNames c x b k

@@ -42,12 +42,12 @@ pub shown_here : (p : Pipe) (ls : Locks) (vs : ℕ → View) (moves : ℕ → Si
 shown_here p ls vs moves s st bits stand seen (Holds k) f live e = ap (λ (g : Signal). g.value s) e ∙ stand.valid k live
 shown_here p ls vs moves s st bits stand seen (Moves k) f live e = ap (λ (g : Signal). g.value s) e ∙ (seen k live).leaves
 shown_here p ls vs moves s st bits stand seen (Keeps k x) f live e =
-    λ t is. ap (λ (g : Signal). g.value s) e ∙ sym (stand.env k t is x live.1.1)
+    λ t is. ap (λ (g : Signal). g.value s) e ∙ sym (stand.env k t is x live.2)
 shown_here p ls vs moves s st bits stand seen (Ends k x) f live e =
-    λ t is ready. ap (λ (g : Signal). g.value s) e ∙ sym ((((seen k live.0).follows t is).so ready).env x live.1.1)
+    λ t is ready. ap (λ (g : Signal). g.value s) e ∙ sym ((((seen k live.0).follows t is).so ready).env x live.2)
 shown_here p ls vs moves s st bits stand seen (Guess k i) f live e =
     λ t is long. ap (λ (g : Signal). g.value s) e ∙ sym (values_get s (vs k).begun.guess i)
-    ∙ ap (λ args. slice_index args i) (sym (stand.guess k t is live.1.1 long))
+    ∙ ap (λ args. slice_index args i) (sym (stand.guess k t is live.2 long))
 shown_here p ls vs moves s st bits stand seen (Marked k h m a) f live e = tt
 shown_here p ls vs moves s st bits stand seen (Ticket k m) f live e = tt
 shown_here p ls vs moves s st bits stand seen (Lock m i) f live e = tt

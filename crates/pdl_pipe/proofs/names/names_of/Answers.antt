@@ -12,6 +12,6 @@ returns g c =
     let beside = c.in_ok-name_beside.ensures in
     let stages = c.name_stages.new.names.items in
     let all = c.name_beside.new.names.items in record {
-      each = beside.each (begun.adds.each (subst (Each (IsNamedIn b x)) (sym c.new-names.ensures) tt));
+      each = beside.each (begun.adds.each (subst (Each (IsNamedIn b x)) (sym c.new-names.ensures.items) tt));
       stages = λ k low. stage_stays b x stages all k beside (begun.has k low);
     }

@@ -4,11 +4,11 @@ use Rattle.pdl_pipe.specs.declared.names.NamedNet.{NamedNet}
 use Rattle.pdl_pipe.proofs.KeptNames.{kept_one, kept_none}
 use Rattle.pdl_pipe.proofs.netlist.keep_name.Goals as goal
 
-pub returns : goal.returns
-returns c = kept_none c.args.kept.now c.args.found.now.items c.args.x (sym c.has.ensures ∙ c.if.true)
+pub returns-then-not-has : goal.returns-then-not-has
+returns-then-not-has c = kept_none c.args.kept.now c.args.found.now.items c.args.x (sym c.has.ensures ∙ c.if-not-has.true)
 
-pub returns-2 : goal.returns-2
-returns-2 c =
+pub returns : goal.returns
+returns c =
     c.in_ok-name.ensures
     ∙ ap (λ (y : Net). c.args.found.now.items ++ record { net = y; role = c.args.x.role } ∷ []) c.net.ensures
-    ∙ kept_one c.args.kept.now c.args.found.now.items c.args.x (sym c.has.ensures ∙ c.if.false)
+    ∙ kept_one c.args.kept.now c.args.found.now.items c.args.x (sym c.has.ensures ∙ c.if-not-has.false)

@@ -20,7 +20,7 @@ variable-net-requires-clause-low c =
     let n = c.requires.line.count in
     let l = c.requires.live.0 in
     let long = guess_long c.args.b.now c.args.line.now c.args.stage c.stage_of.result.now (omega (arith, n, l)) (sym c.stage_of.ensures) c.requires.line in
-    let low = c.requires.live.1.0 in
+    let low = c.requires.live.1 in
     subst (λ xs. c.args.place < length xs) (sym c.as_slice.ensures) (omega (arith, long, low))
 
 pub returns-clause-adds : goal.returns-clause-adds

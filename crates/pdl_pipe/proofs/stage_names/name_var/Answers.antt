@@ -1,4 +1,5 @@
 use Rattle.std.proofs.Common.{◌<◌, length, sym, subst, arith}
+use Rattle.std.specs.Prelude.{◌++◌, ◌∷◌, []}
 use Rattle.pdl_net.specs.Meaning.{Means}
 use Rattle.pdl_pipe_exprs.specs.Nets.{NetsThere, signals_in, signal_at}
 use Rattle.pdl_pipe.specs.declared.names.Role.TheVariants.{Keeps, Ends}
@@ -19,7 +20,7 @@ variable-kept-requires-clause-low c =
     let n = c.requires.line.count in
     let l = c.requires.live.0 in
     let long = kept_long c.args.b.now c.args.line.now c.args.stage c.stage_of-here.result.now (omega (arith, n, l)) (sym c.stage_of-here.ensures) c.requires.line in
-    let low = c.requires.live.1.0 in
+    let low = c.requires.live.1 in
     subst (λ xs. c.args.var < length xs) (sym c.as_slice.ensures) (omega (arith, long, low))
 
 pub variable-ended-requires-clause-there : goal.variable-ended-requires-clause-there
@@ -35,11 +36,11 @@ variable-ended-requires-clause-low c =
     let n = c.requires.line.count in
     let l = c.requires.live.0 in
     let long = ended_long c.args.b.now c.args.line.now c.args.stage c.stage_of-here.result.now (omega (arith, n, l)) (sym c.stage_of-here.ensures) c.requires.line in
-    let low = c.requires.live.1.0 in
+    let low = c.requires.live.1 in
     subst (λ xs. c.args.var < length xs) (sym c.as_slice-2.ensures.value) (omega (arith, long, low))
 
-pub returns-clause-adds : goal.returns-clause-adds
-returns-clause-adds c =
+pub returns-then-are_same-clause-adds : goal.returns-then-are_same-clause-adds
+returns-then-are_same-clause-adds c =
     let b = c.args.b.now in
     let x = c.args.line.now in
     let k = c.args.stage in
@@ -53,8 +54,8 @@ returns-clause-adds c =
     (adds_one b x old (with_role c.variable-kept.result (Keeps k v))
     (keeps_named b x k s (omega (arith, n, l)) (sym c.stage_of-here.ensures) v c.variable-kept.result c.requires.live kept))
 
-pub returns-clause-has : goal.returns-clause-has
-returns-clause-has c =
+pub returns-then-are_same-clause-has : goal.returns-then-are_same-clause-has
+returns-then-are_same-clause-has c =
     let b = c.args.b.now in
     let x = c.args.line.now in
     let k = c.args.stage in
@@ -66,10 +67,10 @@ returns-clause-has c =
     let means = ends_means b x k s (omega (arith, n, l)) (sym c.stage_of-here.ensures) v c.variable-ended.result ended in
     subst (λ names. HasVarNames b x names k v) (sym c.in_ok-name.ensures)
     (passed_named b x c.args.names.now.items k v c.variable-kept.result
-    (subst (MeansRole b x (Ends k v)) (sym (c.are_same.ensures c.if.true)) means))
+    (subst (MeansRole b x (Ends k v)) (sym (c.are_same.ensures c.if-are_same.true)) means))
 
-pub returns-2-clause-adds : goal.returns-2-clause-adds
-returns-2-clause-adds c =
+pub returns-clause-adds : goal.returns-clause-adds
+returns-clause-adds c =
     let b = c.args.b.now in
     let x = c.args.line.now in
     let k = c.args.stage in
@@ -81,13 +82,17 @@ returns-2-clause-adds c =
     let one = c.name.new.names.items in
     let two = c.name-2.new.names.items in
     let ended = subst (λ xs. Means b c.variable-ended.result (signal_at (signals_in b xs) v)) c.as_slice-2.ensures.value c.variable-ended.ensures in
-    adds_more b x old one two (returns-clause-adds c)
+    let kept = subst (λ xs. Means b c.variable-kept.result (signal_at (signals_in b xs) v)) c.as_slice.ensures c.variable-kept.ensures in
+    adds_more b x old one two
+    (subst (AddsNames b x old) (sym c.in_ok-name.ensures)
+    (adds_one b x old (with_role c.variable-kept.result (Keeps k v))
+    (keeps_named b x k s (omega (arith, n, l)) (sym c.stage_of-here.ensures) v c.variable-kept.result c.requires.live kept)))
     (subst (AddsNames b x one) (sym c.in_ok-name-2.ensures)
     (adds_one b x one (with_role c.variable-ended.result (Ends k v))
     (ends_named b x k s (omega (arith, n, l)) (sym c.stage_of-here.ensures) v c.variable-ended.result c.requires.live ended)))
 
-pub returns-2-clause-has : goal.returns-2-clause-has
-returns-2-clause-has c =
+pub returns-clause-has : goal.returns-clause-has
+returns-clause-has c =
     let b = c.args.b.now in
     let x = c.args.line.now in
     let k = c.args.stage in

@@ -25,4 +25,4 @@ loop-var-preserved c =
     }
 
 pub returns-clause-has : goal.returns-clause-has
-returns-clause-has c = λ v live. c.loop-var.invariant.has v (let t = c.loop-var-test.false in let n = c.vars-var-end.ensures in let m = live.1.0 in omega (arith, t, n, m)) live
+returns-clause-has c = λ v live. c.loop-var.invariant.has v (let t = c.loop-var-test.false in let n = c.vars-var-end.ensures in let m = live.1 in omega (arith, t, n, m)) live
