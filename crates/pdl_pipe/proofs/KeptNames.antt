@@ -52,12 +52,12 @@ module _ (k : Choice) (n : Netlist) (h : IsClosed (circuit_of n) k) (well : IsWe
   -- so are all that are kept
   pub all_kept : (p : tree.Pipe) (names : List NamedNet) → Each (IsName p n) names → Each (IsName p (pruned k n)) (names_kept k names)
   all_kept p [] each = tt
-  all_kept p (x ∷ xs) each = at (is_kept k x.net) refl
+  all_kept p (x ∷ xs) each = at (is_kept k x.net) refl (all_kept p xs each.1)
     where
-      at : (b : Bool) → is_kept k x.net ≡ b
+      at : (b : Bool) → is_kept k x.net ≡ b → Each (IsName p (pruned k n)) (names_kept k xs)
           → Each (IsName p (pruned k n)) (cond b (record { net = moved_net k x.net; role = x.role } ∷ names_kept k xs) (names_kept k xs))
-      at true e = (name_kept p x each.0 e, all_kept p xs each.1)
-      at false e = all_kept p xs each.1
+      at true e rest = (name_kept p x each.0 e, rest)
+      at false e rest = rest
 
 -- a net that is there has a mark, where each register and each cell has one
 within_of : (n : Netlist) (k : Choice) → KeepsNeeded (circuit_of n) k → (x : Net) → IsThere (circuit_of n) x → IsWithin k x
@@ -86,7 +86,7 @@ are_names p n q k all names well are_all needed part is = record {
   kept = k;
   needed = needed;
   part = part;
-  names = is;
+  found = is;
 }
 
 -- ---- one name after the other

@@ -106,4 +106,4 @@ pub record AreNames (p : tree.Pipe) (n : Netlist) (names : List NamedNet) : Type
   pub kept : Choice
   pub needed : KeepsNeeded (circuit_of whole) kept
   pub part : n ≡ pruned kept whole
-  pub names : names ≡ names_kept kept all
+  pub found : names ≡ names_kept kept all
