@@ -1,8 +1,6 @@
 -- All names of a netlist that is finished from all nets of an accepted pipe.
-use Rattle.std.proofs.Common.{◌≡◌, sym, ap, ◌∙◌, subst, ℕ, ◌<◌, List, length, ◌⊎◌, inl, inr, Result, Ok, Err, IfOk}
+use Rattle.std.proofs.Common.{◌≡◌, sym, subst, ℕ, List, ◌⊎◌, inl, inr, Result, Ok, Err, IfOk}
 use Rattle.std.specs.Global.{Vec}
-use Rattle.std.specs.Prelude.{Contains}
-use Rattle.pdl_word.specs.Each.{Each}
 use Rattle.pdl_semantics.specs.Tree as tree
 use Rattle.pdl_semantics.specs.Flatten.{flat}
 use Rattle.pdl_form.specs.Form.{Form, form_of}
@@ -16,7 +14,7 @@ use Rattle.pdl_law_parts.specs.Views.{View}
 use Rattle.pdl_pipe_walk.specs.Locked.{Members}
 use Rattle.pdl_pipe_registers.proofs.Lists.{each_map}
 use Rattle.pdl_pipe_nexts.specs.declared.line.StageLine.{StageLine}
-use Rattle.pdl_pipe_nexts.specs.Lines.{line_form, line_pipe, line_views, line_moves}
+use Rattle.pdl_pipe_nexts.specs.Lines.{line_pipe, line_views, line_moves}
 use Rattle.pdl_pipe_nexts.proofs.LineGrowth.{views_same, all_moves_same}
 use Rattle.pdl_pipe_emitted.specs.Emitted.{views_of, moves_of}
 use Rattle.pdl_pipe_emitted.proofs.LaidGrowth.{keeps_cd}
@@ -25,7 +23,7 @@ use Rattle.pdl_pipe.specs.declared.names.Role.TheVariants.{Holds, Moves, Keeps, 
 use Rattle.pdl_pipe.specs.declared.names.NamedNet.{NamedNet}
 use Rattle.pdl_pipe.specs.Emitted.{IsEmitted}
 use Rattle.pdl_pipe.specs.Names.{IsLive, IsName, IsNamed, IsPassed, AreAllNames}
-use Rattle.pdl_pipe.specs.NamedNets.{IsSignalOf, IsNamedIn, IsPassedIn, MeansRole, HasStageNames, AreNamedIn, IsNamedEmitted}
+use Rattle.pdl_pipe.specs.NamedNets.{IsSignalOf, IsNamedIn, IsPassedIn, MeansRole, AreNamedIn, IsNamedEmitted}
 use Rattle.pdl_pipe.proofs.ShownNames.{IsSeenAlways, shows_role}
 
 -- nets of one form in one circuit, with their names, are nets of the same form in the same circuit

@@ -6,9 +6,9 @@ use Rattle.pdl_semantics.specs.Tree as tree
 use Rattle.pdl_semantics.specs.Flatten.{flat}
 use Rattle.pdl_rules.specs.Refusal.{KeepsRules}
 use Rattle.pdl_source_paths.specs.Source.{is_source, is_named}
-use Rattle.pdl_form.specs.Form.{Form, form_of}
+use Rattle.pdl_form.specs.Form.{form_of}
 use Rattle.pdl_net.specs.declared.Netlist.{Netlist}
-use Rattle.pdl_net.specs.Circuit.{Circuit, circuit_of, shape_of, shapes_of}
+use Rattle.pdl_net.specs.Circuit.{circuit_of, shape_of, shapes_of}
 use Rattle.pdl_net.specs.Signal.{Signal}
 use Rattle.pdl_net.specs.Well.{IsWell}
 use Rattle.pdl_law_parts.specs.Walk.{Locks}

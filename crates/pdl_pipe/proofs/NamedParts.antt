@@ -1,15 +1,13 @@
 -- Names that are added one after another, each for what its net is.
 use Rattle.std.proofs.Common.{◌≡◌, ap, ◌∙◌, sym, ℕ, ◌<◌, List, [], ◌∷◌, ◌++◌, length, take, ◌⊎◌, inl, inr, arith}
-use Rattle.std.specs.Prelude.{Contains}
 use Rattle.std.proofs.lemmas.List.{length-take}
 use Rattle.std.proofs.lemmas.List.Elements.{Contains-append_left, Contains-push}
-use Rattle.pdl_word.specs.Each.{Each}
 use Rattle.pdl_word.proofs.Each.{each_push}
 use Rattle.pdl_semantics.specs.Flat.{Pipe}
 use Rattle.pdl_net.specs.declared.Net.{Net}
 use Rattle.pdl_net.specs.declared.Net.TheVariants.{Reg as RegNet}
 use Rattle.pdl_net.specs.Circuit.{Circuit}
-use Rattle.pdl_net.specs.Meaning.{IsThere, Means, signal}
+use Rattle.pdl_net.specs.Meaning.{IsThere, Means}
 use Rattle.pdl_law_parts.specs.Views.{View}
 use Rattle.pdl_pipe_exprs.specs.Nets.{NetsThere, signals_in, signal_at}
 use Rattle.pdl_pipe_registers.specs.declared.nets.StageNets.{StageNets}

@@ -1,14 +1,13 @@
 -- The nets of a netlist that is made of an accepted source show what they are named for.
-use Rattle.std.proofs.Common.{◌≡◌, refl, sym, ap, ◌∙◌, subst, ℕ, zero, suc, ◌<◌, true, List, [], ◌∷◌, length, ◌⊎◌, inl, inr}
-use Rattle.std.specs.Prelude.{Bool, Some, slice_index}
-use Rattle.pdl_word.specs.Each.{Each}
+use Rattle.std.proofs.Common.{◌≡◌, refl, sym, ap, ◌∙◌, ℕ, zero, suc, ◌<◌, List, [], ◌∷◌, length}
+use Rattle.std.specs.Prelude.{Bool, slice_index}
 use Rattle.pdl_semantics.specs.Tree as tree
 use Rattle.pdl_semantics.specs.Flat.{Pipe}
 use Rattle.pdl_semantics.specs.Flatten.{flat}
 use Rattle.pdl_semantics.specs.Machine as machine
 use Rattle.pdl_net.specs.declared.Netlist.{Netlist}
 use Rattle.pdl_net.specs.declared.Net.{Net}
-use Rattle.pdl_net.specs.Circuit.{Circuit, State, circuit_of}
+use Rattle.pdl_net.specs.Circuit.{State, circuit_of}
 use Rattle.pdl_net.specs.Signal.{Signal}
 use Rattle.pdl_net.specs.Meaning.{signal}
 use Rattle.pdl_net.specs.Run.{start, state_in}
@@ -21,11 +20,9 @@ use Rattle.pdl_law_parts.specs.Stands.{StandsFor, IsSeen}
 use Rattle.pdl_law_sides.specs.WholeNetlist.{replies_of}
 use Rattle.pdl_law_follows.specs.Refined.{machine_after}
 use Rattle.pdl_pipe_exprs.specs.Nets.{signal_at}
-use Rattle.pdl_pipe_registers.proofs.Lists.{each_map}
 use Rattle.pdl_pipe.specs.declared.names.Role.{Role}
 use Rattle.pdl_pipe.specs.declared.names.Role.TheVariants.{Holds, Moves, Keeps, Ends, Guess, Marked, Ticket, Lock, Port, Order, Tail}
-use Rattle.pdl_pipe.specs.declared.names.NamedNet.{NamedNet}
-use Rattle.pdl_pipe.specs.Names.{IsLive, IsShown, ShowsRole, IsName, IsNamed, IsPassed, AreAllNames}
+use Rattle.pdl_pipe.specs.Names.{IsLive, IsShown, ShowsRole}
 use Rattle.pdl_pipe.specs.NamedNets.{IsSignalOf}
 
 -- ---- a cycle

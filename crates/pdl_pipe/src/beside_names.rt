@@ -1,5 +1,7 @@
 // What the registers beside a pipe's stages stand for.
-ghost use Rattle.std.specs.Prelude.{OnOk};
+ghost use Rattle.std.specs.Prelude.{◌≡◌, OnOk, length};
+ghost use Rattle.pdl_form.specs.FormView.{form};
+ghost use Rattle.pdl_pipe_nexts.specs.Lines.{line_pipe};
 ghost use Rattle.pdl_pipe.specs.NamedNets.{AddsNames};
 
 use crate::names::{NamedNet, Parts, Role, name_if_reg, name_reg};
@@ -156,8 +158,14 @@ fn name_orders(
 }
 
 // Whether the tail of a memory's lock in a stage is a register: the reserves of the memory stand in an earlier stage.
-fn carries_tail(pipe: &FlatPipe, stage: usize, mem: usize) -> bool {
-    mem < pipe.mems().len() && has_lock(pipe, mem) && pipe.reserved(mem).unwrap_or(0) < stage
+fn carries_tail(pipe: &FlatPipe, stage: usize, mem: usize) -> bool
+    requires { length (form pipe.now).pipe.reserves_at ≡ length (form pipe.now).pipe.mems }
+{
+    if mem >= pipe.mems().len() {
+        return false;
+    }
+    let from = pipe.reserved(mem).unwrap_or(0);
+    has_lock(pipe, mem) && from < stage
 }
 
 // The tail of a memory's lock in a stage, if it is a register.
@@ -169,6 +177,7 @@ fn name_tail(
     stage: usize,
     mem: usize,
 ) -> Result<(), NoMemory>
+    requires { length (line_pipe line.now).reserves_at ≡ length (line_pipe line.now).mems }
     ensures { OnOk result (AddsNames b.now line.now names.old.items names.new.items) }
 {
     if !carries_tail(line.pipe, stage, mem) {
@@ -185,6 +194,7 @@ fn name_row(
     row: &[Net],
     stage: usize,
 ) -> Result<(), NoMemory>
+    requires { length (line_pipe line.now).reserves_at ≡ length (line_pipe line.now).mems }
     ensures { OnOk result (AddsNames b.now line.now names.old.items names.new.items) }
 {
     for mem in 0..row.len() {
@@ -200,6 +210,7 @@ fn name_before(
     line: &StageLine<'_>,
     tails: &TailNets,
 ) -> Result<(), NoMemory>
+    requires { length (line_pipe line.now).reserves_at ≡ length (line_pipe line.now).mems }
     ensures { OnOk result (AddsNames b.now line.now names.old.items names.new.items) }
 {
     for stage in 0..tails.before.len() {
@@ -215,6 +226,7 @@ fn name_tails(
     line: &StageLine<'_>,
     tails: &TailNets,
 ) -> Result<(), NoMemory>
+    requires { length (line_pipe line.now).reserves_at ≡ length (line_pipe line.now).mems }
     ensures { OnOk result (AddsNames b.now line.now names.old.items names.new.items) }
 {
     let Some(verify) = line.pipe.verify_stage() else {
@@ -231,6 +243,8 @@ pub(crate) fn name_beside<L>(
     names: &mut Vec<NamedNet>,
     parts: &Parts<'_, L>,
 ) -> Result<(), NoMemory>
+    requires { length (line_pipe parts.now.line.now).reserves_at
+        ≡ length (line_pipe parts.now.line.now).mems }
     ensures { OnOk result (AddsNames b.now parts.now.line.now names.old.items names.new.items) }
 {
     name_locks(b, names, parts.line, parts.locks)?;

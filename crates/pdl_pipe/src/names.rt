@@ -1,6 +1,6 @@
 // What the registers and cells of a pipe's netlist stand for.
-ghost use Rattle.std.specs.Prelude.{◌≡◌, ◌++◌, ◌∷◌, [], IfOk, OnOk};
-ghost use Rattle.pdl_pipe_nexts.specs.Lines.{IsLineIn};
+ghost use Rattle.std.specs.Prelude.{◌≡◌, ◌++◌, ◌∷◌, [], IfOk, OnOk, length};
+ghost use Rattle.pdl_pipe_nexts.specs.Lines.{line_pipe, IsLineIn};
 ghost use Rattle.pdl_pipe.specs.NamedNets.{IsUntold, AddsNames, AreNamedIn};
 
 use crate::beside_names::name_beside;
@@ -131,7 +131,9 @@ pub fn names_of<L>(
     b: &Builder,
     parts: &Parts<'_, L>,
 ) -> Result<Vec<NamedNet>, NoMemory>
-    requires { IsLineIn b.now parts.now.line.now }
+    requires line { IsLineIn b.now parts.now.line.now }
+    requires reserves { length (line_pipe parts.now.line.now).reserves_at
+        ≡ length (line_pipe parts.now.line.now).mems }
     ensures { IfOk result (λ ns. AreNamedIn b.now parts.now.line.now ns.items) }
 {
     let needs = Needs::new(alloc, parts.line.pipe)?;

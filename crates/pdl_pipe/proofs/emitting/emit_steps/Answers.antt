@@ -246,8 +246,8 @@ show-requires g c =
     } in
     record { there = subst (OutsThere i) (sym c.as_slice-6.ensures) (c.in_ok-outs.ensures.there i told) }
 
-pub names_of-requires : goal.names_of-requires
-names_of-requires g c =
+pub names_of-requires-clause-line : goal.names_of-requires-clause-line
+names_of-requires-clause-line g c =
     let b = c.args.b.now in
     let x = c.args.line.now in
     let moved = c.requires.moved in
@@ -266,6 +266,9 @@ names_of-requires g c =
     (apart_from high (length a.regs) (length r.regs) x.stages.now n layout.apart 0 (omega arith)) c.in_ok-steps.ensures in
     let bd = keeps_trans b i c.show.new.b (keeps_trans b r i br ri) (ports_keeps i c.show.new.b _ c.in_ok-show.ensures.ports) in
     line_keep b c.show.new.b x bd c.requires.line
+
+pub names_of-requires-clause-reserves : goal.names_of-requires-clause-reserves
+names_of-requires-clause-reserves g c = c.requires.can.reserves
 
 pub returns : goal.returns
 returns g c =

@@ -1,7 +1,7 @@
 use Rattle.std.proofs.Common.{sym, subst}
 use Rattle.pdl_word.specs.Each.{Each}
-use Rattle.pdl_pipe.specs.NamedNets.{IsNamedIn, AreNamedIn}
-use Rattle.pdl_pipe.proofs.NamedParts.{stage_stays, adds_more}
+use Rattle.pdl_pipe.specs.NamedNets.{IsNamedIn}
+use Rattle.pdl_pipe.proofs.NamedParts.{stage_stays}
 use Rattle.pdl_pipe.proofs.names.names_of.Goals as goal
 
 pub returns : goal.returns

@@ -1,6 +1,5 @@
-use Rattle.std.proofs.Common.{◌≡◌, ◌++◌, ◌∷◌, [], List, sym, ap, ◌∙◌}
+use Rattle.std.proofs.Common.{◌++◌, ◌∷◌, [], sym, ap, ◌∙◌}
 use Rattle.pdl_net.specs.declared.Net.{Net}
-use Rattle.pdl_pipe.specs.declared.names.NamedNet.{NamedNet}
 use Rattle.pdl_pipe.proofs.KeptNames.{kept_one, kept_none}
 use Rattle.pdl_pipe.proofs.netlist.keep_name.Goals as goal
 

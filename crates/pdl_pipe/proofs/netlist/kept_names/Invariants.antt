@@ -1,7 +1,4 @@
 use Rattle.std.proofs.Common.{◌≡◌, ◌++◌, drop}
-use Rattle.pdl_word.specs.Each.{Each}
-use Rattle.pdl_net_needed.specs.Marks.{IsWithin}
-use Rattle.pdl_pipe.specs.declared.names.NamedNet.{NamedNet}
 use Rattle.pdl_pipe.specs.Names.{names_kept}
 use Rattle.pdl_pipe.proofs.netlist.kept_names.Given as goal
 

@@ -1,6 +1,9 @@
-use Rattle.std.proofs.Common.{◌≡◌}
+use Rattle.std.proofs.Common.{List, sym, ap, ◌∙◌, subst}
+use Rattle.pdl_word.specs.Each.{Each}
 use Rattle.pdl_syntax_tree.specs.View.{pipe_view}
-use Rattle.pdl_net_needed.specs.Pruned.{IsPruned}
+use Rattle.pdl_net_needed.specs.Marks.{IsWithin}
+use Rattle.pdl_pipe.specs.declared.names.NamedNet.{NamedNet}
+use Rattle.pdl_pipe.specs.Names.{names_kept}
 use Rattle.pdl_pipe.proofs.NeededPart.{needed_follows}
 use Rattle.pdl_pipe.proofs.NeededFolded.{needed_folded}
 use Rattle.pdl_pipe.proofs.KeptNames.{are_names, names_within}
@@ -14,8 +17,9 @@ kept_part-requires-clause-well g c = c.in_ok-whole.ensures.follows.well_formed
 
 pub kept_names-requires : goal.kept_names-requires
 kept_names-requires g c =
-    names_within (pipe_view c.args.accepted.now.typed.pipe) c.in_ok-whole.whole.netlist c.in_ok-kept.kept
-    c.in_ok-whole.whole.names.items c.in_ok-whole.ensures.names c.in_ok-kept.ensures
+    subst (λ (xs : List NamedNet). Each (λ x. IsWithin c.in_ok-kept.kept x.net) xs) (sym c.as_slice.ensures.value)
+    (names_within (pipe_view c.args.accepted.now.typed.pipe) c.in_ok-whole.whole.netlist c.in_ok-kept.kept
+    c.in_ok-whole.whole.names.items c.in_ok-whole.ensures.names c.in_ok-kept.ensures)
 
 pub returns-clause-follows : goal.returns-clause-follows
 returns-clause-follows g c =
@@ -34,7 +38,8 @@ pub returns-clause-names : goal.returns-clause-names
 returns-clause-names g c =
     are_names (pipe_view c.args.accepted.now.typed.pipe) c.in_ok-whole.whole.netlist c.in_ok-netlist.netlist c.in_ok-kept.kept
     c.in_ok-whole.whole.names.items c.in_ok-names.names.items c.in_ok-whole.ensures.follows.well_formed.well
-    c.in_ok-whole.ensures.names c.in_ok-kept.ensures c.in_ok-netlist.ensures.same c.in_ok-names.ensures
+    c.in_ok-whole.ensures.names c.in_ok-kept.ensures c.in_ok-netlist.ensures.same
+    (c.in_ok-names.ensures ∙ ap (names_kept c.in_ok-kept.kept) c.as_slice.ensures.value)
 
 pub returns-clause-different : goal.returns-clause-different
 returns-clause-different g c = c.in_ok-netlist.ensures.distinct c.in_ok-whole.ensures.different

@@ -1,4 +1,4 @@
-use Rattle.std.proofs.Common.{◌<◌, ℕ, arith}
+use Rattle.std.proofs.Common.{arith}
 use Rattle.pdl_pipe_registers.proofs.Lists.{up_to}
 use Rattle.pdl_pipe.specs.declared.names.Role.TheVariants.{Guess}
 use Rattle.pdl_pipe.specs.Names.{IsNamed}

@@ -1,5 +1,4 @@
 use Rattle.pdl_pipe.specs.declared.names.Role.TheVariants.{Holds, Moves, Guess}
-use Rattle.pdl_pipe.specs.NamedNets.{HasStageNames}
 use Rattle.pdl_pipe.proofs.NamedParts.{named_stays, var_stays, adds_more}
 use Rattle.pdl_pipe.proofs.stage_names.name_stage.Goals as goal
 

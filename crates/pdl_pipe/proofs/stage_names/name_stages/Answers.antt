@@ -1,4 +1,4 @@
-use Rattle.std.proofs.Common.{◌<◌, ℕ, arith}
+use Rattle.std.proofs.Common.{arith}
 use Rattle.pdl_pipe_registers.proofs.Lists.{up_to}
 use Rattle.pdl_pipe.specs.NamedNets.{HasStageNames}
 use Rattle.pdl_pipe.proofs.NamedParts.{adds_none, adds_more, stage_stays}

@@ -1,4 +1,4 @@
-use Rattle.std.proofs.Common.{◌≡◌, ◌<◌, length, sym, subst, arith}
+use Rattle.std.proofs.Common.{sym, subst, arith}
 use Rattle.pdl_net.specs.declared.Net.TheVariants.{Reg as RegNet}
 use Rattle.pdl_pipe_nexts.proofs.LineGrowth.{bits_there}
 use Rattle.pdl_pipe.specs.declared.names.Role.TheVariants.{Holds, Moves}
