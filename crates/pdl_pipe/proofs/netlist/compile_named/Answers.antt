@@ -6,7 +6,7 @@ use Rattle.pdl_form_types.specs.Stmts.{AreTypedMems}
 use Rattle.pdl_lock_kinds.specs.AskedLocks.{AreInTime, AreSizedLocks}
 use Rattle.pdl_law_follows.proofs.Sequential as sequential
 use Rattle.pdl_pipe.proofs.LocksAllowed.{sized_locks, locks_in_time, suited_as}
-use Rattle.pdl_pipe.proofs.netlist.compile.Goals as goal
+use Rattle.pdl_pipe.proofs.netlist.compile_named.Goals as goal
 
 pub locks_of-requires-clause-mems : goal.locks_of-requires-clause-mems
 locks_of-requires-clause-mems c =
@@ -29,23 +29,23 @@ needed_with-requires c = record { suited = suited_as _ _ _ _ _ _ c.flat.ensures 
 pub returns-clause-writes : goal.returns-clause-writes
 returns-clause-writes c =
     let a = c.args.accepted.now in
-    let n = c.in_ok-netlist in
-    sequential.refines (pipe_view a.typed.pipe) a.kept a.source a.letters n.netlist n.ensures.follows
+    let n = c.in_ok-named in
+    sequential.refines (pipe_view a.typed.pipe) a.kept a.source a.letters n.named.netlist n.ensures.follows
 
 pub returns-clause-moves : goal.returns-clause-moves
 returns-clause-moves c =
     let a = c.args.accepted.now in
-    let n = c.in_ok-netlist in
-    sequential.moves (pipe_view a.typed.pipe) a.kept a.source a.letters n.netlist n.ensures.follows
+    let n = c.in_ok-named in
+    sequential.moves (pipe_view a.typed.pipe) a.kept a.source a.letters n.named.netlist n.ensures.follows
 
 pub returns-clause-ends : goal.returns-clause-ends
 returns-clause-ends c =
     let a = c.args.accepted.now in
-    let n = c.in_ok-netlist in
-    sequential.ends (pipe_view a.typed.pipe) a.kept a.source a.letters n.netlist n.ensures.follows
+    let n = c.in_ok-named in
+    sequential.ends (pipe_view a.typed.pipe) a.kept a.source a.letters n.named.netlist n.ensures.follows
 
 pub returns-clause-runs : goal.returns-clause-runs
 returns-clause-runs c =
     let a = c.args.accepted.now in
-    let n = c.in_ok-netlist in
-    sequential.runs (pipe_view a.typed.pipe) a.kept a.source a.letters n.netlist n.ensures.follows
+    let n = c.in_ok-named in
+    sequential.runs (pipe_view a.typed.pipe) a.kept a.source a.letters n.named.netlist n.ensures.follows
