@@ -3,6 +3,8 @@
 //! Nothing stands on it; `pdl_names_text` says what is written.
 #![tactic(auto)]
 
+ghost use Rattle.std.specs.Prelude.{ℕ, List, IsTrue};
+
 use pdl_cli_failure::{Failure, report, status_of};
 use pdl_kit::files::Files;
 use pdl_kit::sink::{Sink, write_whole};
@@ -29,7 +31,9 @@ fn obey<F: Files, O: Sink>(
     words: &Vec<String>,
     files: &mut F,
     out: &mut O,
-) -> Result<(), Failure> {
+) -> Result<(), Failure>
+    requires { (name : List ℕ) → IsTrue (F.may files.old name) }
+{
     if words.len() != 1 {
         return Err(Failure::Usage);
     }

@@ -59,7 +59,7 @@ pub record IsNamedText (p : Pipe) (text : List ℕ) : Type 0 where
   pub names : List NamedNet
   pub follows : Follows p netlist
   pub named : AreNames p netlist names
-  pub text : text ≡ verilog netlist ++ names_text names
+  pub same : text ≡ verilog netlist ++ names_text names
 
 -- a text is that of a pipe that breaks no rule
 pub record IsAccepted (source : List ℕ) (p : Pipe) : Type 0 where

@@ -20,6 +20,6 @@ returns c =
       names = n.named.names.items;
       follows = n.ensures.follows;
       named = n.ensures.names;
-      text = text;
+      same = text;
     })
     c.text_with-text.ensures
