@@ -107,10 +107,15 @@ class Specs:
                     for name in it.names:
                         self.own[place].setdefault(name, it)
 
-    @staticmethod
-    def place_of(path):
+    def place_of(self, path):
+        """The crate and the file that a path leads to, also by way of a crate whose Lib passes it on."""
         parts = path.split(".")
-        return (parts[1], ".".join(parts[3:])) if parts[0] == "Rattle" and parts[2:3] == ["specs"] else None
+        while parts[0] == "Rattle" and parts[2:3] == ["specs"]:
+            onward = self.imports.get((parts[1], "Lib"), {}).get("".join(parts[3:4]))
+            if not onward:
+                return parts[1], ".".join(parts[3:])
+            parts = onward[0].split(".") + parts[4:]
+        return None
 
     def find(self, place, name, imports=None):
         """The place and the definition of a name in a file, or nothing."""
@@ -124,7 +129,7 @@ class Specs:
             place, name = self.place_of(path), there
             if place not in self.imports:
                 if place:
-                    self.types.add((path.replace(".TheVariants", ""), name if "TheVariants" not in path else ""))
+                    self.types.add((".".join(place).replace(".TheVariants", ""), name if "TheVariants" not in path else ""))
                 return None
         return None
 
@@ -137,8 +142,9 @@ class Specs:
             if other in self.imports:
                 yield self.find(other, name)
         for crate, path, name in re.findall(r"Rattle\.(\w+)\.specs\.([\w.]+)\.(\w+)", text):
-            if (crate, path) in self.imports:
-                yield self.find((crate, path), name)
+            other = self.place_of(f"Rattle.{crate}.specs.{path}")
+            if other in self.imports:
+                yield self.find(other, name)
         for name in set(NAMED.findall(text)):
             yield self.find(place, name, imports)
 

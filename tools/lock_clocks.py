@@ -4,8 +4,9 @@
     lock_clocks.py PDL [--write]
 
 PDL is the program. It builds the page's pipe with each lock of each size over a memory of 32 words of 32 bits, and needs yosys
-and nextpnr-ice40. An entry has the look-up tables, the flip-flops, and the clock in MHz, the mean over three seeds. With --write
-the table is put into the page.
+and nextpnr-ice40. An entry has the look-up tables, the flip-flops, the longest path in nanoseconds, the mean over three seeds,
+and the clock in MHz that it allows. As many locks are made at a time as there are processors: under `taskset -c 0` one. With
+--write the table is put into the page.
 """
 
 import concurrent.futures
@@ -13,7 +14,6 @@ import os
 import pathlib
 import re
 import subprocess
-import sys
 import tempfile
 
 import usage
@@ -57,35 +57,35 @@ def ran(words, folder):
     return done.stdout + done.stderr
 
 
-def clock(folder, seed):
-    """The clock by nextpnr, in MHz."""
+def longest(folder, seed):
+    """The longest path by nextpnr, in nanoseconds."""
     said = ran(["nextpnr-ice40", "--hx8k", "--package", "ct256", "--json", "top.json", "--seed", str(seed)], folder)
-    return float(re.findall(r"Max frequency for clock .*?: ([\d.]+) MHz", said)[-1])
+    return 1000 / float(re.findall(r"Max frequency for clock .*?: ([\d.]+) MHz", said)[-1])
 
 
 def entry(program, pipe, lock):
     """What stands in the table of a lock."""
     with tempfile.TemporaryDirectory() as name:
         folder = pathlib.Path(name)
-        (folder / "lock.pdl").write_text(source_of(pipe, lock, DEPTH).replace("uint<8>", f"uint<{WIDTH}>").replace("n[5:0]", "n[4:0]"))
+        (folder / "lock.pdl").write_text(source_of(pipe, lock, DEPTH).replace("uint<8>", f"uint<{WIDTH}>"))
         text = ran([program, "build", "lock.pdl"], folder)
         (folder / "lock.v").write_text(text)
         (folder / "top.v").write_text(wrapped(text))
-        cells = ran(["yosys", "-p", "read_verilog top.v lock.v; synth_ice40 -top top -json top.json; stat"], folder)
+        cells = ran(["yosys", "-p", "read_verilog top.v lock.v; synth_ice40 -abc9 -device hx -top top -json top.json; stat"], folder)
         tables = int(re.findall(r"SB_LUT4 +(\d+)", cells)[-1])
         flops = sum(map(int, re.findall(r"SB_DFF\w* +(\d+)", cells.rsplit("Printing statistics", 1)[-1])))
-        clocks = [clock(folder, seed) for seed in SEEDS]
-    return f"{tables:,}, {flops:,}, {sum(clocks) / len(clocks):.0f}"
+        path = sum(longest(folder, seed) for seed in SEEDS) / len(SEEDS)
+    return f"{tables:,}, {flops:,}, {path:.1f}, {1000 / path:.0f}"
 
 
 def table(program, pipe):
     """The lines of the table."""
     locks = [f"{kind}({size})" for kind in KINDS for size in SIZES]
-    with concurrent.futures.ThreadPoolExecutor(os.cpu_count()) as workers:
+    with concurrent.futures.ThreadPoolExecutor(len(os.sched_getaffinity(0))) as workers:
         entries = dict(zip(locks, workers.map(lambda it: entry(program, pipe, it), locks)))
     yield from HEAD
     for kind in KINDS:
-        yield f"| {kind} | " + " | ".join(entries[f"{kind}({size})"] for size in SIZES) + " |"
+        yield f"| `{kind}` | " + " | ".join(entries[f"{kind}({size})"] for size in SIZES) + " |"
 
 
 def main():

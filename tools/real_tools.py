@@ -124,8 +124,8 @@ def loads(module, image):
     ]
 
 
-def bench(module, image, replies, cycles):
-    """A test bench: one reset cycle, the image, and in each cycle the answers, and a line with all ports."""
+def bench(module, image, replies, cycles, nets=()):
+    """A test bench: one reset cycle, the image, and in each cycle the answers, and a line with all ports and these nets."""
     outside = [kept_outside(*it, module.commits_of(it[0])) for it in module.delayed()]
     rows = [replies(cycle) for cycle in range(1, cycles + 1)]
     bits = {name: "".join(str(int(name in row)) for row in rows) for name in module.words}
@@ -133,8 +133,9 @@ def bench(module, image, replies, cycles):
     wires = [f"  wire [{width - 1}:0] {name};" for name, width in module.outputs]
     inputs = "".join(f", .p_{name}(p_{name}), .pd_{name}(pd_{name})" for name in module.words)
     ports = "".join(f", .{name}({name})" for name, _ in module.outputs)
-    form = " ".join("%h" for _ in module.outputs)
-    shown = "".join(f", {name}" for name, _ in module.outputs)
+    every = [name for name, _ in module.outputs] + [f"dut.{net}" for net in nets]
+    form = " ".join("%h" for _ in every)
+    shown = "".join(f", {name}" for name in every)
     return "\n".join(
         [
             "module bench;",
@@ -171,9 +172,9 @@ def port_lines(module, shown):
     return [" ".join(f"{name}={value:x}" for name, value in zip(names, row)) for row in shown]
 
 
-def ports_shown(module, image, replies, cycles, folder):
-    """The values of all ports in each cycle by Icarus, or what it has against the test bench."""
-    (folder / "bench.v").write_text(bench(module, image, replies, cycles))
+def ports_shown(module, image, replies, cycles, folder, nets=()):
+    """The values of all ports and of these nets in each cycle by Icarus, or what it has against the test bench."""
+    (folder / "bench.v").write_text(bench(module, image, replies, cycles, nets))
     status, text = said(["iverilog", "-g2005", "-o", "bench.vvp", "bench.v", module.file], folder)
     if status:
         return None, f"iverilog: {text}"

@@ -4,8 +4,9 @@
     riscv_board.py PDL [--write]
 
 PDL is the program. It needs what examples/riscv/board/board.py does: yosys, nextpnr-ice40 and icestorm. Each core has the
-words of sha256_O2. The last columns are the cycle in which the first word of the digest is written, and how long that is by
-nextpnr's clock. With --write the table is put into the page.
+words of sha256_O2. Its clock by nextpnr is the mean over six seeds, and that by icetime is of the first. The last columns are
+the cycle in which the first word of the digest is written, and how long that is by nextpnr's clock. As many cores are made at a
+time as there are processors: under `taskset -c 0` one. With --write the table is put into the page.
 """
 
 import concurrent.futures
@@ -23,13 +24,18 @@ from riscv_cores import CORES, OPERANDS, VERIFY_LATER, put_table
 sys.path.insert(0, str(CORES / "board"))
 import board
 
-PLACE = 357
+PLACE, SEEDS = 357, (1, 2, 3, 4, 5, 6)
 IMAGE = CORES / "images" / "sha256_O2.img"
 ROWS = (  # what the table says, a core of board.py, and what is changed in its source
     ("`rv32i`", "rv32i", None),
     ("`rv32i_guess`", "rv32i_guess", None),
     ("the same, verified in memory", "rv32i_guess", VERIFY_LATER),
+    ("`rv32i_counters`", "rv32i_counters", None),
     ("`rv32i_delayed`", "rv32i_delayed", None),
+    ("`rv32i_update`", "rv32i_update", None),
+    ("`rv32i_btb`", "rv32i_btb", None),
+    ("`rv32im`", "rv32im", None),
+    ("`rv32i_traps`", "rv32i_traps", None),
     ("`rv32i` with a stage for operands", "rv32i", OPERANDS),
 )
 HEAD = [
@@ -68,19 +74,25 @@ class Taken:
     cycle: int
 
 
+def clock(folder):
+    """The clock by nextpnr in MHz of a core that is made, the mean over the seeds."""
+    logs = [(folder / "top.log").read_text(), *(board.place(folder, seed) for seed in SEEDS[1:])]
+    return sum(float(re.findall(r"Max frequency for clock .*?: ([\d.]+) MHz", it)[-1]) for it in logs) / len(SEEDS)
+
+
 def taken(program, core, change):
     """What a core takes, whose source is changed first."""
     with tempfile.TemporaryDirectory() as name:
         folder = pathlib.Path(name)
         board.make(program, core, IMAGE.read_text(), PLACE, folder, changed(change))
-        cells, log = (folder / "cells.txt").read_text(), (folder / "nextpnr.log").read_text()
+        cells, log = (folder / "cells.txt").read_text(), (folder / "top.log").read_text()
         timing = (folder / "icetime.log").read_text()
         return Taken(
             tables=int(re.search(r"SB_LUT4 +(\d+)", cells)[1]),
             flops=sum(map(int, re.findall(r"SB_DFF\w* +(\d+)", cells))),
             cells=int(re.search(r"ICESTORM_LC: +(\d+)", log)[1]),
             blocks=int(re.search(r"ICESTORM_RAM: +(\d+)", log)[1]),
-            clock=float(re.findall(r"Max frequency for clock .*?: ([\d.]+) MHz", log)[-1]),
+            clock=clock(folder),
             by_icetime=float(re.findall(r"Timing estimate: .*\(([\d.]+) MHz\)", timing)[-1]),
             cycle=last_write(program, folder))
 
@@ -97,7 +109,7 @@ def main():
     program = usage.program(program)
     if more not in ([], ["--write"]):
         usage.ends(f"`{more[0]}` is no word of it")
-    with concurrent.futures.ThreadPoolExecutor(os.cpu_count()) as workers:
+    with concurrent.futures.ThreadPoolExecutor(len(os.sched_getaffinity(0))) as workers:
         rows = [*HEAD, *workers.map(lambda it: row(program, *it), ROWS), LAST]
     print("\n".join(rows))
     if more:

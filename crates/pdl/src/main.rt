@@ -4,7 +4,7 @@
 #![tactic(auto)]
 
 use pdl_cli::NoWords;
-use pdl_kit::{RealFiles, StdSink};
+use pdl_system::{RealFiles, StdSink};
 use std::io::ErrorKind;
 use std::process::ExitCode;
 

@@ -1,26 +1,25 @@
 -- What `build` writes for a source runs as the source does.
-use Rattle.std.proofs.Common.{◌≡◌, ◌≢◌, ℕ, List, [], Option, Some, None, Result, Ok, Err, AllPairs, length, inl, inr, refl, sym, ap, subst, ◌∙◌}
+use Rattle.std.proofs.Common.{◌≡◌, ◌≢◌, ℕ, List, [], ◌∷◌, Option, Some, None, Result, Ok, Err, AllPairs, length, refl, sym, ap, subst, ◌∙◌}
 use Rattle.std.specs.Prelude.{◌↔◌}
 use Rattle.pdl_kit.specs.declared.mem_info.MemInfo.{MemInfo}
 use Rattle.pdl_kit.specs.declared.rule.Rule.{Rule}
-use Rattle.pdl_kit.specs.Files.{Held, Gives}
 use Rattle.pdl_semantics.specs.Tree.{Pipe}
 use Rattle.pdl_semantics.specs.Flat as flat_form
 use Rattle.pdl_semantics.specs.Flatten.{flat}
 use Rattle.pdl_semantics.specs.Lines.{run_lines}
-use Rattle.pdl_syntax_grammar.specs.Text.{IsText}
 use Rattle.pdl_syntax_grammar.proofs.Places.{one_tree}
 use Rattle.pdl_net.specs.declared.Netlist.{Netlist}
 use Rattle.pdl_net.specs.Run.{delayed_mems}
 use Rattle.pdl_law_parts.specs.Places.{delayed_count}
 use Rattle.pdl_law_sides.specs.WholeNetlist.{in_order}
-use Rattle.pdl_law_follows.specs.Memories.{replies_in, taken_in_order}
+use Rattle.pdl_cli_commands.specs.Memories.{replies_in, taken_in_order}
 use Rattle.pdl_image.specs.Lines as image_lines
 use Rattle.pdl_image.specs.Images.{IsImage, image, after_header, first_wrong}
 use Rattle.pdl_image.specs.Slots.{all_slots}
 use Rattle.pdl_image.specs.declared.file_error.FileError.{FileError}
 use Rattle.pdl_image.specs.declared.file_error.FileError.TheVariants as file
 use Rattle.pdl_image.proofs.WholeImage.{no_header, wrong_line, image_read, whole}
+use Rattle.pdl_vread.specs.Reads.{Reads}
 use Rattle.pdl_vread.proofs.Memories.{read_names}
 use Rattle.pdl_cli_args.specs.Line.{run, sim}
 use Rattle.pdl_cli_failure.specs.declared.failure.Position.{Position}
@@ -28,11 +27,12 @@ use Rattle.pdl_cli_failure.specs.declared.failure.Position.TheVariants.{Line, In
 use Rattle.pdl_cli.specs.Alike.{DoTheSame}
 use Rattle.pdl_netrun_lines.specs.Printed.{run_text}
 use Rattle.pdl_cli_commands.specs.Replies.{IsSchedule, DelaysRefused}
-use Rattle.pdl_cli_commands.specs.Simulated.{HoldsNetlist, IsStarted, IsSimulated, IsWrongSim}
-use Rattle.pdl_cli_commands.specs.Commands.{IsLoaded, IsBuilt, IsOutput, IsWrongRun, IsWrongFor}
+use Rattle.pdl_cli_commands.specs.Simulated.{IsStarted, IsSimulated, IsWrongSim}
+use Rattle.pdl_cli_commands.specs.Commands.{IsLoaded, IsBuilt, IsOutput, IsWrongRun, IsWrongFor, Writes}
 use Rattle.pdl_cli_commands.proofs.ToldMemories.{delayed_as_many}
 use Rattle.pdl_cli_commands.proofs.AcceptedNetlists.{images}
-use Rattle.pdl_cli.proofs.ExitStatus.{one_text, source_right, one_held, netlist_right}
+use Rattle.pdl_cli_commands.proofs.OneNetlist.{one_netlist, read_right}
+use Rattle.pdl_cli_commands.proofs.RightSources.{kept_unrefused}
 use Rattle.pdl_rules.specs.Memories.{infos_of}
 
 -- ---- images that are taken
@@ -66,55 +66,41 @@ refused_from p (Err g) f e = let k : g ≡ f = cc e in ap (λ x. Err x) k
 
 -- ---- what is built
 
-module _ (held : Held) (source v image' text : List ℕ) (cycles : ℕ) (delays : Option (List ℕ))
-    (b : IsBuilt (Some held) source text) (given : Gives (Some held) v text) where
-  has_netlist : HoldsNetlist (Some held) v b.netlist
-  has_netlist = record { netlist_text = text; netlist_given = given; read = b.read }
-
-  same_images : (file : List ℕ) → image (infos_of b.pipe.mems) file ≡ taken_in_order (flat b.pipe) (image b.netlist.mems file)
-  same_images file = images b.source_text b.pipe b.netlist b.accepted b.follows file
+module _ (source built : List ℕ) (b : IsBuilt source built) where
+  same_images : (i : List ℕ) → image (infos_of b.pipe.mems) i ≡ taken_in_order (flat b.pipe) (image b.netlist.mems i)
+  same_images i = images source b.pipe b.netlist b.accepted b.follows i
 
   count : length (delayed_mems b.netlist) ≡ delayed_count (flat b.pipe)
   count = delayed_as_many b.pipe b.netlist b.follows
 
-  fits : (image_text : List ℕ) (words : List (List ℕ)) → image b.netlist.mems image_text ≡ Ok words → IsImage b.netlist.mems words
-  fits image_text words e =
-      taken_image b.netlist.mems image_text words (after_header (image_lines.lines image_text)) (read_names text (Ok b.netlist) b.read) e refl
+  fits : (i : List ℕ) (words : List (List ℕ)) → image b.netlist.mems i ≡ Ok words → IsImage b.netlist.mems words
+  fits i words e =
+      taken_image b.netlist.mems i words (after_header (image_lines.lines i)) (read_names built (Ok b.netlist) b.read) e refl
 
-  one_pipe : (source_text : List ℕ) (p : Pipe) → Gives (Some held) source source_text → IsText source_text p → p ≡ b.pipe
-  one_pipe source_text p g t =
-      let s : source_text ≡ b.source_text = one_text held source source_text b.source_text g b.source_given in
-      one_tree b.source_text p b.pipe (subst (λ (x : List ℕ). IsText x p) s t) b.accepted.text
+  netlist_is : (n : Netlist) → Reads built n → n ≡ b.netlist
+  netlist_is n r = one_netlist built n b.netlist r b.read
 
   -- the image that `sim` takes is the one that `run` takes
-  module _ (words : List (List ℕ)) (s : IsStarted (Some held) v image' b.netlist words) where
-    loaded : IsLoaded (Some held) source image' b.pipe (in_order (flat b.pipe) words)
-    loaded = record {
-      source_text = b.source_text;
-      source_given = b.source_given;
-      accepted = b.accepted;
-      image_text = s.image_text;
-      image_given = s.image_given;
-      taken = same_images s.image_text ∙ ap (taken_in_order (flat b.pipe)) s.taken;
-    }
+  loaded : (i : List ℕ) (words : List (List ℕ)) → image b.netlist.mems i ≡ Ok words → IsLoaded source i b.pipe (in_order (flat b.pipe) words)
+  loaded i words taken = record { accepted = b.accepted; taken = same_images i ∙ ap (taken_in_order (flat b.pipe)) taken }
 
-  netlist_is : (n : Netlist) → HoldsNetlist (Some held) v n → n ≡ b.netlist
-  netlist_is n h = one_held held v n b.netlist h has_netlist
+  started : (i : List ℕ) (words : List (List ℕ)) (n : Netlist) → IsStarted built i n words → image b.netlist.mems i ≡ Ok words
+  started i words n s = subst (λ (x : Netlist). image x.mems i ≡ Ok words) (netlist_is n s.read) s.taken
 
-  run_writes : (t : List ℕ) → IsSimulated (Some held) v image' cycles delays t → IsOutput (Some held) source image' cycles delays t
-  run_writes t s =
-      let n = netlist_is s.netlist s.started.held in
-      let started = subst (λ (x : Netlist). IsStarted (Some held) v image' x s.words) n s.started in
-      let replies = subst (λ (x : Netlist). IsSchedule (Some held) delays (length (delayed_mems x)) cycles s.schedule) n s.replies in
+  run_writes : (i : List ℕ) (cycles : ℕ) (ds : List (List ℕ)) (t : List ℕ) → IsSimulated built i cycles ds t → IsOutput source i cycles ds t
+  run_writes i cycles ds t s =
+      let n = netlist_is s.netlist s.started.read in
+      let taken = started i s.words s.netlist s.started in
+      let replies = subst (λ (x : Netlist). IsSchedule ds (length (delayed_mems x)) cycles s.schedule) n s.replies in
       let printed : t ≡ run_text b.netlist s.words s.schedule = subst (λ (x : Netlist). t ≡ run_text x s.words s.schedule) n s.printed in
-      let fit = fits started.image_text s.words started.taken in
+      let fit = fits i s.words taken in
       let promised = b.runs s.words s.schedule fit in
       record {
         pipe = b.pipe;
         words = in_order (flat b.pipe) s.words;
-        loaded = loaded s.words started;
+        loaded = loaded i s.words taken;
         schedule = s.schedule;
-        replies = subst (λ k. IsSchedule (Some held) delays k cycles s.schedule) count replies;
+        replies = subst (λ k. IsSchedule ds k cycles s.schedule) count replies;
         lines = printed ∙ promised.lines;
         netlist = b.netlist;
         follows = b.follows;
@@ -125,91 +111,83 @@ module _ (held : Held) (source v image' text : List ℕ) (cycles : ℕ) (delays 
         promised = promised;
       }
 
-  -- what an image that `run` takes is for `sim`
-  taken_for : (p : Pipe) (words : List (List ℕ)) → p ≡ b.pipe → (l : IsLoaded (Some held) source image' p words)
-      → (start : List (List ℕ)) × IsStarted (Some held) v image' b.netlist start × (in_order (flat b.pipe) start ≡ words)
-  taken_for p words q l =
-      let taken : image (infos_of b.pipe.mems) l.image_text ≡ Ok words = subst (λ (x : Pipe). image (infos_of x.mems) l.image_text ≡ Ok words) q l.taken in
-      let k = taken_from (flat b.pipe) (image b.netlist.mems l.image_text) words (sym (same_images l.image_text) ∙ taken) in
-      (k.0, record { held = has_netlist; image_text = l.image_text; image_given = l.image_given; taken = k.1 }, k.2)
-
-  sim_writes : (t : List ℕ) → IsOutput (Some held) source image' cycles delays t → IsSimulated (Some held) v image' cycles delays t
-  sim_writes t o =
-      let q : o.pipe ≡ b.pipe = one_pipe o.loaded.source_text o.pipe o.loaded.source_given o.loaded.accepted.text in
-      let k = taken_for o.pipe o.words q o.loaded in
-      let replies = subst (λ (x : Pipe). IsSchedule (Some held) delays (delayed_count (flat x)) cycles o.schedule) q o.replies in
+  sim_writes : (i : List ℕ) (cycles : ℕ) (ds : List (List ℕ)) (t : List ℕ) → IsOutput source i cycles ds t → IsSimulated built i cycles ds t
+  sim_writes i cycles ds t o =
+      let q : o.pipe ≡ b.pipe = one_tree source o.pipe b.pipe o.loaded.accepted.text b.accepted.text in
+      let taken : image (infos_of b.pipe.mems) i ≡ Ok o.words = subst (λ (x : Pipe). image (infos_of x.mems) i ≡ Ok o.words) q o.loaded.taken in
+      let k = taken_from (flat b.pipe) (image b.netlist.mems i) o.words (sym (same_images i) ∙ taken) in
+      let replies = subst (λ (x : Pipe). IsSchedule ds (delayed_count (flat x)) cycles o.schedule) q o.replies in
       let lines : t ≡ run_lines b.pipe o.words (replies_in (flat b.pipe) o.schedule) =
       subst (λ (x : Pipe). t ≡ run_lines x o.words (replies_in (flat x) o.schedule)) q o.lines in
-      let fit = fits k.1.image_text k.0 k.1.taken in
+      let fit = fits i k.0 k.1 in
       record {
         netlist = b.netlist;
         words = k.0;
-        started = k.1;
+        started = record { read = b.read; taken = k.1 };
         schedule = o.schedule;
-        replies = subst (λ c. IsSchedule (Some held) delays c cycles o.schedule) (sym count) replies;
+        replies = subst (λ c. IsSchedule ds c cycles o.schedule) (sym count) replies;
         printed = lines ∙ ap (λ ws. run_lines b.pipe ws (replies_in (flat b.pipe) o.schedule)) (sym k.2) ∙ sym (b.runs k.0 o.schedule fit).lines;
       }
 
-  run_wrong : (rule : Rule) (line : ℕ) → IsWrongSim (Some held) v image' delays rule line → IsWrongRun (Some held) source image' delays rule line
-  run_wrong rule line (inl w) = absurd (netlist_right held v rule line b.netlist has_netlist w)
-  run_wrong rule line (inr (inl w)) =
-      inl (inr (record {
-        source_text = b.source_text;
-        source_given = b.source_given;
-        pipe = b.pipe;
-        accepted = b.accepted;
-        image_text = w.image_text;
-        image_given = w.image_given;
-        refused =
-            same_images w.image_text
-            ∙ ap (taken_in_order (flat b.pipe))
-            (subst (λ (x : Netlist). image x.mems w.image_text ≡ Err (file.Refused rule line)) (netlist_is w.netlist w.held) w.refused);
-      }))
-  run_wrong rule line (inr (inr w)) =
-      let n = netlist_is w.netlist w.started.held in
-      let started = subst (λ (x : Netlist). IsStarted (Some held) v image' x w.words) n w.started in
-      inr (record {
+  run_wrong : (others : List (List ℕ)) (rule : Rule) (line : ℕ) → IsWrongSim (built ∷ others) rule line → IsWrongRun (source ∷ others) rule line
+  run_wrong [] rule line w = absurd (read_right built b.netlist rule line b.read w)
+  run_wrong (i ∷ []) rule line w = record {
+    pipe = b.pipe;
+    accepted = b.accepted;
+    refused =
+        same_images i
+        ∙ ap (taken_in_order (flat b.pipe))
+        (subst (λ (x : Netlist). image x.mems i ≡ Err (file.Refused rule line)) (netlist_is w.netlist w.read) w.refused);
+  }
+  run_wrong (i ∷ d ∷ []) rule line w =
+      let n = netlist_is w.netlist w.started.read in
+      record {
         pipe = b.pipe;
         words = in_order (flat b.pipe) w.words;
-        loaded = loaded w.words started;
-        refused = subst (λ k. DelaysRefused (Some held) delays k rule line) (ap (λ (x : Netlist). length (delayed_mems x)) n ∙ count) w.refused;
-      })
+        loaded = loaded i w.words (started i w.words w.netlist w.started);
+        refused = subst (λ k. DelaysRefused k d rule line) (ap (λ (x : Netlist). length (delayed_mems x)) n ∙ count) w.refused;
+      }
+  run_wrong (i ∷ d ∷ e ∷ others) rule line w = w
 
-  sim_wrong : (rule : Rule) (line : ℕ) → IsWrongRun (Some held) source image' delays rule line → IsWrongSim (Some held) v image' delays rule line
-  sim_wrong rule line (inl (inl w)) = absurd (source_right held source rule line b.source_text b.pipe b.source_given b.accepted w)
-  sim_wrong rule line (inl (inr w)) =
-      let q : w.pipe ≡ b.pipe = one_pipe w.source_text w.pipe w.source_given w.accepted.text in
-      let refused : image (infos_of b.pipe.mems) w.image_text ≡ Err (file.Refused rule line) =
-      subst (λ (p : Pipe). image (infos_of p.mems) w.image_text ≡ Err (file.Refused rule line)) q w.refused in
-      inr (inl (record {
+  sim_wrong : (others : List (List ℕ)) (rule : Rule) (line : ℕ) → IsWrongRun (source ∷ others) rule line → IsWrongSim (built ∷ others) rule line
+  sim_wrong [] rule line w = absurd (kept_unrefused source b.pipe rule line b.accepted w)
+  sim_wrong (i ∷ []) rule line w =
+      let q : w.pipe ≡ b.pipe = one_tree source w.pipe b.pipe w.accepted.text b.accepted.text in
+      let refused : image (infos_of b.pipe.mems) i ≡ Err (file.Refused rule line) =
+      subst (λ (p : Pipe). image (infos_of p.mems) i ≡ Err (file.Refused rule line)) q w.refused in
+      record {
         netlist = b.netlist;
-        held = has_netlist;
-        image_text = w.image_text;
-        image_given = w.image_given;
-        refused = refused_from (flat b.pipe) (image b.netlist.mems w.image_text) (file.Refused rule line) (sym (same_images w.image_text) ∙ refused);
-      }))
-  sim_wrong rule line (inr w) =
-      let q : w.pipe ≡ b.pipe = one_pipe w.loaded.source_text w.pipe w.loaded.source_given w.loaded.accepted.text in
-      let k = taken_for w.pipe w.words q w.loaded in
-      inr (inr (record {
+        read = b.read;
+        refused = refused_from (flat b.pipe) (image b.netlist.mems i) (file.Refused rule line) (sym (same_images i) ∙ refused);
+      }
+  sim_wrong (i ∷ d ∷ []) rule line w =
+      let q : w.pipe ≡ b.pipe = one_tree source w.pipe b.pipe w.loaded.accepted.text b.accepted.text in
+      let taken : image (infos_of b.pipe.mems) i ≡ Ok w.words =
+      subst (λ (x : Pipe). image (infos_of x.mems) i ≡ Ok w.words) q w.loaded.taken in
+      let k = taken_from (flat b.pipe) (image b.netlist.mems i) w.words (sym (same_images i) ∙ taken) in
+      record {
         netlist = b.netlist;
         words = k.0;
-        started = k.1;
-        refused = subst (λ c. DelaysRefused (Some held) delays c rule line) (ap (λ (p : Pipe). delayed_count (flat p)) q ∙ sym count) w.refused;
-      }))
+        started = record { read = b.read; taken = k.1 };
+        refused = subst (λ c. DelaysRefused c d rule line) (ap (λ (p : Pipe). delayed_count (flat p)) q ∙ sym count) w.refused;
+      }
+  sim_wrong (i ∷ d ∷ e ∷ others) rule line w = w
 
-same_refusals : (held : Held) (source netlist image' text : List ℕ) (cycles : ℕ) (delays : Option (List ℕ))
-    → IsBuilt (Some held) source text → Gives (Some held) netlist text → (rule : Rule) (position : Position)
-    → IsWrongFor (Some held) (sim netlist image' cycles delays) rule position ↔ IsWrongFor (Some held) (run source image' cycles delays) rule position
-same_refusals held source netlist image' text cycles delays b given rule (Line n) =
-    (run_wrong held source netlist image' text cycles delays b given rule n, sim_wrong held source netlist image' text cycles delays b given rule n)
-same_refusals held source netlist image' text cycles delays b given rule (Insn n) = (λ w. w, λ w. w)
+  module _ (v s image' : List ℕ) (cycles : ℕ) (delays : Option (List ℕ)) where
+    same_writes : (others : List (List ℕ)) (t : List ℕ)
+        → Writes (sim v image' cycles delays) (built ∷ others) t ↔ Writes (run s image' cycles delays) (source ∷ others) t
+    same_writes [] t = (λ w. w, λ w. w)
+    same_writes (i ∷ ds) t = (run_writes i cycles ds t, sim_writes i cycles ds t)
+
+    same_refusals : (others : List (List ℕ)) (rule : Rule) (position : Position)
+        → IsWrongFor (sim v image' cycles delays) (built ∷ others) rule position ↔ IsWrongFor (run s image' cycles delays) (source ∷ others) rule position
+    same_refusals others rule (Line n) = (run_wrong others rule n, sim_wrong others rule n)
+    same_refusals others rule (Insn n) = (λ w. w, λ w. w)
 
 -- `sim` of what is built does what `run` of the source does
-pub same_run : (held : Held) (source netlist image' text : List ℕ) (cycles : ℕ) (delays : Option (List ℕ))
-    → IsBuilt (Some held) source text → Gives (Some held) netlist text
-    → DoTheSame (Some held) (sim netlist image' cycles delays) (run source image' cycles delays)
-same_run held source netlist image' text cycles delays b given = record {
-  writes = λ t. (run_writes held source netlist image' text cycles delays b given t, sim_writes held source netlist image' text cycles delays b given t);
-  refused = same_refusals held source netlist image' text cycles delays b given;
+pub same_run : (source built v s image' : List ℕ) (cycles : ℕ) (delays : Option (List ℕ)) → IsBuilt source built
+    → DoTheSame (sim v image' cycles delays) (run s image' cycles delays) built source
+same_run source built v s image' cycles delays b = record {
+  writes = same_writes source built b v s image' cycles delays;
+  refused = same_refusals source built b v s image' cycles delays;
 }

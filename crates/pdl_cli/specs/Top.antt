@@ -2,13 +2,13 @@
 use Rattle.std.specs.Prelude.{◌≡◌, ◌≤◌, ℕ, ◌⊎◌, Bool, IsTrue, List, Option, Some, None, Result, ⊤}
 use Rattle.pdl_kit.specs.declared.rule.Rule.{Rule}
 use Rattle.pdl_kit.specs.Counts.{Rose}
-use Rattle.pdl_kit.specs.Files.{Held}
 use Rattle.pdl_cli_args.specs.Line.{Command, check, run, seq, asm, gen, build, sim, wave, view}
 use Rattle.pdl_cli_failure.specs.declared.failure.Position.{Position}
 use Rattle.pdl_cli_failure.specs.declared.failure.Failure.{Failure}
 use Rattle.pdl_cli_failure.specs.Failures.{status_of, text_of}
 use Rattle.pdl_cli_commands.specs.Replies.{AllowsFile}
 use Rattle.pdl_cli_commands.specs.Commands.{IsWrongFor}
+use Rattle.pdl_cli_commands.specs.Reading.{HasFailed, texts}
 use Rattle.pdl_cli_commands.specs.Outcomes.{Seen, Explains}
 
 -- the files that a command names may be read
@@ -42,14 +42,14 @@ Answers command s Said status =
     (o : Result (Unit {0}) Failure)
     × (status ≡ status_of o) × Explains command s o × Said (text_of o)
 
--- the status of a command is decided by what is seen: not 1; 2 where a told file is wrong and no reading failed; 0 where no file is wrong and nothing failed; where it isn't, memory ran out
+-- the status of a command is decided by what is seen, but that memory may have run out: not 1; 2 where the last text that was read is wrong; 3 where a file was not read; 0 where no text is wrong and nothing failed
 pub record IsDecided (command : Command) (s : Seen) (status : ℕ) : Type 0 where
   pub usage : status ≡ 1 → ⊥
-  pub wrong : (held : Held) (rule : Rule) (position : Position)
-      → s.holds ≡ Some held → IsWrongFor (Some held) command rule position
-      → (Rose s.reads s.reads_now → ⊥) → (status ≡ 2) ⊎ (status ≡ 5)
-  pub right : ((rule : Rule) (position : Position) → IsWrongFor s.holds command rule position → ⊥)
-      → (Rose s.reads s.reads_now → ⊥) → (Rose s.writes s.writes_now → ⊥)
+  pub wrong : (rule : Rule) (position : Position) → IsWrongFor command (texts s.reads) rule position
+      → (status ≡ 2) ⊎ (status ≡ 5)
+  pub failed : HasFailed s.reads → (status ≡ 3) ⊎ (status ≡ 5)
+  pub right : ((rule : Rule) (position : Position) → IsWrongFor command (texts s.reads) rule position → ⊥)
+      → (Rose s.faults s.faults_now → ⊥) → (Rose s.writes s.writes_now → ⊥)
       → (status ≡ 0) ⊎ (status ≡ 5)
 
 -- the status is decided by what is seen: 1 where the words are no command

@@ -3,6 +3,8 @@ ghost use Rattle.std.specs.Prelude.{◌≡◌, ◌≤◌, ℕ, List, Option, IsT
 ghost use Rattle.std.specs.Prelude.{Some, Err};
 ghost use Rattle.pdl_cli_args.specs.Line.{line};
 ghost use Rattle.pdl_cli_args.specs.View.{view};
+ghost use Rattle.pdl_system.specs.Answers.{Since};
+ghost use Rattle.pdl_system.specs.Files.{AreTold};
 ghost use Rattle.pdl_cli_failure.specs.Texts.{Says};
 ghost use Rattle.pdl_cli_commands.specs.Outcomes.{seen_of, Explains, Streamed};
 ghost use Rattle.pdl_cli.specs.Top.{Allows, IsFew, Answers, Decides};
@@ -12,8 +14,8 @@ use pdl_cli_commands::{
     assembly_text, build, generate, run_in_turn, run_source, simulate, verdict, view_source, wave,
 };
 use pdl_cli_failure::{Failure, report, status_of};
-use pdl_kit::files::Files;
 use pdl_kit::sink::{Sink, write_whole};
+use pdl_system::Files;
 use std::alloc::Global;
 
 // Writes a text that was made whole, if it was.
@@ -42,10 +44,13 @@ fn obey_line<F: Files, O: Sink>(
 ) -> Result<(), Failure>
     requires allowed { Allows (F.may files.old) (Some (view line)) }
     requires few { IsFew (view line) }
-    ensures explained { Explains (Some (view line.entry))
-        (seen_of (F.holds files.old) (F.faults files.old) (F.faults files.new)
-        (O.written out.old) (O.written out.new) (O.faults out.old) (O.faults out.new)) result }
+    ensures explained { Since (F.answers files.old) (F.answers files.new)
+        (λ reads. Explains (Some (view line.entry))
+        (seen_of reads (F.faults files.old) (F.faults files.new)
+        (O.written out.old) (O.written out.new) (O.faults out.old) (O.faults out.new)) result) }
     ensures held { F.holds files.new ≡ F.holds files.old }
+    ensures told { AreTold (F.holds files.old) (F.answers files.old)
+        → AreTold (F.holds files.new) (F.answers files.new) }
     ensures allowed { (n : List ℕ) → F.may files.new n ≡ F.may files.old n }
     ensures later { F.faults files.old ≤ F.faults files.new }
     ensures written { O.faults out.old ≤ O.faults out.new }
@@ -99,10 +104,13 @@ fn obey<F: Files, O: Sink>(
     out: &mut O,
 ) -> Result<(), Failure>
     requires { Allows (F.may files.old) (line (map string_bytes words.now.items)) }
-    ensures explained { Explains (line (map string_bytes words.now.items))
-        (seen_of (F.holds files.old) (F.faults files.old) (F.faults files.new)
-        (O.written out.old) (O.written out.new) (O.faults out.old) (O.faults out.new)) result }
+    ensures explained { Since (F.answers files.old) (F.answers files.new)
+        (λ reads. Explains (line (map string_bytes words.now.items))
+        (seen_of reads (F.faults files.old) (F.faults files.new)
+        (O.written out.old) (O.written out.new) (O.faults out.old) (O.faults out.new)) result) }
     ensures held { F.holds files.new ≡ F.holds files.old }
+    ensures told { AreTold (F.holds files.old) (F.answers files.old)
+        → AreTold (F.holds files.new) (F.answers files.new) }
     ensures allowed { (n : List ℕ) → F.may files.new n ≡ F.may files.old n }
     ensures later { F.faults files.old ≤ F.faults files.new }
     ensures written { O.faults out.old ≤ O.faults out.new }
@@ -115,8 +123,8 @@ fn obey<F: Files, O: Sink>(
 
 /// Does all that the program does: reads the words after its name, the files that they name, writes to `out`, and says on `err` why it does not.
 ///
-/// The status that it answers is 0 where all was done; 1 where the words are no command; 2 where the first wrong file is refused; 3 where the count of faults of the files rose, and 4 where that of `out` did, or where it stands at the last value of a `u64`; 5 where memory ran out, which no clause tells.
-#[tactic(auto, using(crate::proofs::ExitStatus::decided))]
+/// The files are read in the order of the words, each once, and none after one that is wrong or could not be read. The status that it answers is 0 where all was done; 1 where the words are no command; 2 where the first wrong file is refused; 3 where a file could not be read and the count of faults of the files rose, and 4 where that of `out` did, or where it stands at the last value of a `u64`; 5 where memory ran out, which no clause tells.
+#[tactic(auto, using(crate::proofs::ExitStatus::answers_since))]
 pub fn top<F: Files, O: Sink, E: Sink>(
     alloc: Global,
     words: &Vec<String>,
@@ -125,18 +133,22 @@ pub fn top<F: Files, O: Sink, E: Sink>(
     err: &mut E,
 ) -> u8
     requires { Allows (F.may files.old) (line (map string_bytes words.now.items)) }
-    // The status is that of an outcome that what is seen explains; err has its text.
-    ensures outcome { Answers (line (map string_bytes words.now.items))
-        (seen_of (F.holds files.old) (F.faults files.old) (F.faults files.new)
+    // The status is that of an outcome that what was read, and is seen, explains; err has its text.
+    ensures outcome { Since (F.answers files.old) (F.answers files.new)
+        (λ reads. Answers (line (map string_bytes words.now.items))
+        (seen_of reads (F.faults files.old) (F.faults files.new)
         (O.written out.old) (O.written out.new) (O.faults out.old) (O.faults out.new))
         (Says (E.written err.old) (E.written err.new) (E.faults err.old) (E.faults err.new))
-        result }
-    // What is seen decides the status, but that memory may have run out.
-    ensures decided { Decides (line (map string_bytes words.now.items))
-        (seen_of (F.holds files.old) (F.faults files.old) (F.faults files.new)
-        (O.written out.old) (O.written out.new) (O.faults out.old) (O.faults out.new)) result }
-    // The files hold what they held.
+        result) }
+    // What was read, and is seen, decides the status, but that memory may have run out.
+    ensures decided { Since (F.answers files.old) (F.answers files.new)
+        (λ reads. Decides (line (map string_bytes words.now.items))
+        (seen_of reads (F.faults files.old) (F.faults files.new)
+        (O.written out.old) (O.written out.new) (O.faults out.old) (O.faults out.new)) result) }
+    // The files hold what they held, and where they tell it, reads gave that.
     ensures held { F.holds files.new ≡ F.holds files.old }
+    ensures told { AreTold (F.holds files.old) (F.answers files.old)
+        → AreTold (F.holds files.new) (F.answers files.new) }
     // The same names may be read as before, and no count of faults falls.
     ensures allowed { (n : List ℕ) → F.may files.new n ≡ F.may files.old n }
     ensures later { F.faults files.old ≤ F.faults files.new }

@@ -2,7 +2,7 @@
 use Rattle.std.proofs.Common.{◌≡◌, ℕ, zero, suc, ◌+◌, ◌≤◌, [], ◌∷◌, ◌++◌, List, length, map, arith, refl, sym, ap, ◌∙◌, subst}
 use Rattle.std.specs.Prelude.{Option, Some, None, Result, Ok, Err, IfOk, Bool, true, false, if◌then◌else◌, replicate}
 use Rattle.pdl_kit.specs.declared.rule.Rule.TheVariants.{Z1}
-use Rattle.pdl_kit.specs.Files.{Held, Gives}
+use Rattle.pdl_system.specs.Answers.{Answer}
 use Rattle.pdl_semantics.specs.Tree.{Mem, Pipe}
 use Rattle.pdl_semantics.specs.Flatten.{flat}
 use Rattle.pdl_semantics.specs.Lines.{columns}
@@ -32,7 +32,8 @@ use Rattle.pdl_source_written.proofs.SourceDumps.{says}
 use Rattle.pdl_netrun_lines.specs.Printed.{run_text, schedule, replies_from}
 use Rattle.pdl_netrun_lines.proofs.RunSteps.{schedule_length}
 use Rattle.pdl_cli_commands.specs.Replies.{all_answered, IsSchedule}
-use Rattle.pdl_cli_commands.specs.Commands.{IsAccepted, IsLoaded, IsBegun, IsOutput, IsBuilt, IsDumped}
+use Rattle.pdl_cli_commands.specs.Begun.{IsBegun}
+use Rattle.pdl_cli_commands.specs.Commands.{IsAccepted, IsLoaded, IsOutput, IsBuilt, IsDumped}
 use Rattle.pdl_cli_commands.proofs.ToldMemories.{delayed_as_many}
 
 -- ---- lines
@@ -83,36 +84,30 @@ module _ (b : List ℕ) (p : Pipe) (n : Netlist) (accepted : IsAccepted b p) (fo
   pub images : (file : List ℕ) → image (infos_of p.mems) file ≡ taken_in_order (flat p) (image n.mems file)
   images file = same_image p (declared p (keeps_rules b p accepted)).distinct file ∙ ap (λ ms. taken_in_order (flat p) (image ms file)) (sym follows.mems)
 
--- ---- what a command writes of a source that is given
+-- ---- what a command writes of a source
 
-module _ (holds : Option Held) (source b : List ℕ) (p : Pipe) (n : Netlist) (given : Gives holds source b)
-    (accepted : IsAccepted b p) (follows : Follows p n) where
-  -- what the netlist's run starts from is what the source's does
-  module _ (image' : List ℕ) (words : List (List ℕ)) (file : List ℕ) (file_given : Gives holds image' file) (taken : image n.mems file ≡ Ok words) where
-    -- the netlist's words of an image file, in the order of the pipe's memories, are loaded for the source
-    pub loaded : IsLoaded holds source image' p (in_order (flat p) words)
-    loaded = record {
-      source_text = b;
-      source_given = given;
-      accepted = accepted;
-      image_text = file;
-      image_given = file_given;
-      taken = images b p n accepted follows file ∙ ap (taken_in_order (flat p)) taken;
-    }
+module _ (b : List ℕ) (p : Pipe) (n : Netlist) (accepted : IsAccepted b p) (follows : Follows p n) where
+  -- the netlist's words of an image, in the order of the pipe's memories, are loaded for the source
+  pub loaded : (i : List ℕ) (words : List (List ℕ)) → image n.mems i ≡ Ok words → IsLoaded b i p (in_order (flat p) words)
+  loaded i words taken = record {
+    accepted = accepted;
+    taken = images b p n accepted follows i ∙ ap (taken_in_order (flat p)) taken;
+  }
 
-  module _ (image' : List ℕ) (delays : Option (List ℕ)) (words : List (List ℕ)) (rows : List ℕ)
-      (begun : IsBegun holds image' delays n.mems (length (delayed_mems n)) words rows) (cycles : ℕ) where
-    replies : IsSchedule holds delays (delayed_count (flat p)) cycles (schedule rows cycles)
-    replies = subst (λ k. IsSchedule holds delays k cycles (schedule rows cycles)) (delayed_as_many p n follows) (begun.replies cycles)
+  module _ (old new : List Answer) (image' : List ℕ) (delays : Option (List ℕ)) (words : List (List ℕ)) (rows : List ℕ)
+      (begun : IsBegun old new image' delays n.mems (length (delayed_mems n)) words rows) (cycles : ℕ) where
+    replies : IsSchedule begun.replies.texts (delayed_count (flat p)) cycles (schedule rows cycles)
+    replies =
+        subst (λ k. IsSchedule begun.replies.texts k cycles (schedule rows cycles)) (delayed_as_many p n follows) (begun.replies.replies cycles)
 
     -- what the netlist prints is the output of the source
-    pub is_output : IsOutput holds source image' cycles delays (run_text n words (schedule rows cycles))
+    pub is_output : IsOutput b begun.image_text cycles begun.replies.texts (run_text n words (schedule rows cycles))
     is_output =
         let promise = promised b p n accepted follows words (schedule rows cycles) begun.fits in
         record {
           pipe = p;
           words = in_order (flat p) words;
-          loaded = loaded image' words begun.image_text begun.image_given begun.taken;
+          loaded = loaded begun.image_text words begun.taken;
           schedule = schedule rows cycles;
           replies = replies;
           lines = promise.lines;
@@ -126,11 +121,12 @@ module _ (holds : Option Held) (source b : List ℕ) (p : Pipe) (n : Netlist) (g
         }
 
     -- the dump of the netlist is the source's
-    pub is_dumped : HasLocksOf any_lock p n → cycles ≤ 1000000 → IsDumped holds source image' cycles delays (run_dump n words (schedule rows cycles))
+    pub is_dumped : HasLocksOf any_lock p n → cycles ≤ 1000000
+        → IsDumped b begun.image_text cycles begun.replies.texts (run_dump n words (schedule rows cycles))
     is_dumped locks few = record {
       pipe = p;
       words = in_order (flat p) words;
-      loaded = loaded image' words begun.image_text begun.image_given begun.taken;
+      loaded = loaded begun.image_text words begun.taken;
       schedule = schedule rows cycles;
       replies = replies;
       netlist = n;
@@ -146,11 +142,9 @@ module _ (holds : Option Held) (source b : List ℕ) (p : Pipe) (n : Netlist) (g
     }
 
   -- the netlist's text is what is built of the source
-  pub is_built : (text : List ℕ) → HasLocksOf any_lock p n → text ≡ verilog n → Reads text n → IsBuilt holds source text
+  pub is_built : (text : List ℕ) → HasLocksOf any_lock p n → text ≡ verilog n → Reads text n → IsBuilt b text
   is_built text locks written read = record {
     pipe = p;
-    source_text = b;
-    source_given = given;
     accepted = accepted;
     netlist = n;
     follows = follows;

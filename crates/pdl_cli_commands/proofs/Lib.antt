@@ -1,9 +1,14 @@
 pub mod ToldMemories
 pub mod AcceptedNetlists
+pub mod OneNetlist
+pub mod Readings
+pub mod RightSources
 pub mod ShortNames
 pub mod OutputCount
 pub mod ReadNames
-pub mod StartFailures
 pub mod Explanations
+pub mod BegunRuns
+pub mod FileFailures
+pub mod Starts
 pub mod SequentialLines
 pub mod RunSummaries

@@ -3,4 +3,7 @@ pub mod Assembled
 pub mod Replies
 pub mod Simulated
 pub mod Commands
+pub mod Reading
+pub mod Begun
 pub mod Outcomes
+pub use Rattle.pdl_law_follows.specs.Memories

@@ -1,7 +1,6 @@
 -- The replies of delayed memories in a run: those of the delay file that a command names, or all of them.
-use Rattle.std.specs.Prelude.{◌≡◌, ℕ, List, Bool, IsTrue, Option, Some, None, Ok, Err, replicate, ⊤}
+use Rattle.std.specs.Prelude.{◌≡◌, ℕ, List, [], ◌∷◌, Bool, IsTrue, Option, Some, None, Ok, Err, replicate, ⊤}
 use Rattle.pdl_kit.specs.declared.rule.Rule.{Rule}
-use Rattle.pdl_kit.specs.Files.{Held, Gives}
 use Rattle.pdl_image.specs.Delays.{delays}
 use Rattle.pdl_image.specs.declared.file_error.FileError.TheVariants as file
 use Rattle.pdl_netrun_lines.specs.Printed.{schedule as scheduled}
@@ -15,14 +14,12 @@ AllowsFile may (Some name) = IsTrue (may name)
 abbrev pub all_answered : ℕ → List ℕ
 all_answered cycles = replicate cycles 65535
 
--- the reply bits of a run of so many cycles with so many delayed memories: all are 1 where no delay file is named; else they are those of its rows, and after the last row all are 1
-abbrev pub IsSchedule : Option Held → Option (List ℕ) → ℕ → ℕ → List ℕ → Type 0
-IsSchedule holds None count cycles schedule = schedule ≡ all_answered cycles
-IsSchedule holds (Some name) count cycles schedule =
-    (text : List ℕ) × (rows : List ℕ) × Gives holds name text × (delays count text ≡ Ok rows) × (schedule ≡ scheduled rows cycles)
+-- the reply bits of a run of so many cycles with so many delayed memories, by the texts of its delay files, of which there is one or none: all are 1 where there is none; else they are those of its rows, and after the last row all are 1
+abbrev pub IsSchedule : List (List ℕ) → ℕ → ℕ → List ℕ → Type 0
+IsSchedule [] count cycles schedule = schedule ≡ all_answered cycles
+IsSchedule (text ∷ more) count cycles schedule =
+    (rows : List ℕ) × (delays count text ≡ Ok rows) × (schedule ≡ scheduled rows cycles)
 
--- the delay file, where one is named, is refused by the rule at the line
-abbrev pub DelaysRefused : Option Held → Option (List ℕ) → ℕ → Rule → ℕ → Type 0
-DelaysRefused holds None count rule line = ⊥
-DelaysRefused holds (Some name) count rule line =
-    (text : List ℕ) × Gives holds name text × (delays count text ≡ Err (file.Refused rule line))
+-- the text of a delay file is refused by the rule at the line
+abbrev pub DelaysRefused : ℕ → List ℕ → Rule → ℕ → Type 0
+DelaysRefused count text rule line = delays count text ≡ Err (file.Refused rule line)

@@ -1,6 +1,7 @@
 // What the command `wave` does.
-ghost use Rattle.std.specs.Prelude.{◌≡◌, ◌≤◌, IsTrue, ℕ, List, Some};
-ghost use Rattle.pdl_kit.specs.Files.{Gives};
+ghost use Rattle.std.specs.Prelude.{◌≡◌, ◌≤◌, ◌∷◌, IsTrue, ℕ, List, Some};
+ghost use Rattle.pdl_system.specs.Answers.{Since, gave};
+ghost use Rattle.pdl_system.specs.Files.{AreTold};
 ghost use Rattle.pdl_semantics.specs.Tree.{Pipe as pipes};
 ghost use Rattle.pdl_syntax_tree.specs.View.{pipe_view};
 ghost use Rattle.pdl_net.specs.Pipe.{IsWellFormed};
@@ -19,12 +20,12 @@ use crate::run::accept;
 use crate::start::{RunStart, start_of};
 use pdl_check::Accepted;
 use pdl_cli_failure::{Failure, in_text};
-use pdl_kit::files::Files;
 use pdl_kit::sink::Sink;
 use pdl_net::Netlist;
 use pdl_netrun_lines::Schedule;
 use pdl_netrun_wave::dump;
 use pdl_pipe::compile;
+use pdl_system::Files;
 use std::alloc::Global;
 
 // Writes the dump of a run of a netlist while it runs.
@@ -65,13 +66,15 @@ fn dump_netlist<F: Files, O: Sink>(
     requires well { IsWellFormed netlist.now }
     requires dumpable { CanBeDumped netlist.now }
     requires few { cycles ≤ 1000000 }
-    ensures explained { (source b : List ℕ) (p : pipes) → Gives (F.holds files.old) source b
-        → IsAccepted b p → Follows p netlist.now
-        → HasLocksOf any_lock p netlist.now
-        → Explains (Some (command.wave source image.now cycles (text_of delays.entry)))
-        (seen_of (F.holds files.old) (F.faults files.old) (F.faults files.new)
-        (O.written out.old) (O.written out.new) (O.faults out.old) (O.faults out.new)) result }
+    ensures explained { (source b : List ℕ) (p : pipes) → IsAccepted b p
+        → Follows p netlist.now → HasLocksOf any_lock p netlist.now
+        → Since (F.answers files.old) (F.answers files.new) (λ reads. Explains
+        (Some (command.wave source image.now cycles (text_of delays.entry)))
+        (seen_of (gave source b ∷ reads) (F.faults files.old) (F.faults files.new)
+        (O.written out.old) (O.written out.new) (O.faults out.old) (O.faults out.new)) result) }
     ensures held { F.holds files.new ≡ F.holds files.old }
+    ensures told { AreTold (F.holds files.old) (F.answers files.old)
+        → AreTold (F.holds files.new) (F.answers files.new) }
     ensures allowed { (n : List ℕ) → F.may files.new n ≡ F.may files.old n }
     ensures later { F.faults files.old ≤ F.faults files.new }
     ensures written { O.faults out.old ≤ O.faults out.new }
@@ -82,7 +85,7 @@ fn dump_netlist<F: Files, O: Sink>(
     }
 }
 
-// Dumps a run of the netlist of an accepted pipe: as the command does for whatever source gives the pipe.
+// Dumps a run of the netlist of an accepted pipe: as the command does for whatever source is the pipe's text.
 fn dump_accepted<F: Files, O: Sink>(
     alloc: Global,
     files: &mut F,
@@ -96,12 +99,14 @@ fn dump_accepted<F: Files, O: Sink>(
     requires delays { AllowsFile (F.may files.old) (text_of delays) }
     requires accepted { (b : List ℕ) × IsAccepted b (pipe_view accepted.now.typed.pipe) }
     requires few { cycles ≤ 1000000 }
-    ensures explained { (source b : List ℕ) → Gives (F.holds files.old) source b
-        → IsAccepted b (pipe_view accepted.now.typed.pipe)
-        → Explains (Some (command.wave source image.now cycles (text_of delays.entry)))
-        (seen_of (F.holds files.old) (F.faults files.old) (F.faults files.new)
-        (O.written out.old) (O.written out.new) (O.faults out.old) (O.faults out.new)) result }
+    ensures explained { (source b : List ℕ) → IsAccepted b (pipe_view accepted.now.typed.pipe)
+        → Since (F.answers files.old) (F.answers files.new) (λ reads. Explains
+        (Some (command.wave source image.now cycles (text_of delays.entry)))
+        (seen_of (gave source b ∷ reads) (F.faults files.old) (F.faults files.new)
+        (O.written out.old) (O.written out.new) (O.faults out.old) (O.faults out.new)) result) }
     ensures held { F.holds files.new ≡ F.holds files.old }
+    ensures told { AreTold (F.holds files.old) (F.answers files.old)
+        → AreTold (F.holds files.new) (F.answers files.new) }
     ensures allowed { (n : List ℕ) → F.may files.new n ≡ F.may files.old n }
     ensures later { F.faults files.old ≤ F.faults files.new }
     ensures written { O.faults out.old ≤ O.faults out.new }
@@ -126,11 +131,13 @@ pub fn wave<F: Files, O: Sink>(
     requires image { IsTrue (F.may files.old image.now) }
     requires delays { AllowsFile (F.may files.old) (text_of delays) }
     requires few { cycles ≤ 1000000 }
-    ensures explained { Explains
+    ensures explained { Since (F.answers files.old) (F.answers files.new) (λ reads. Explains
         (Some (command.wave source.now image.now cycles (text_of delays.entry)))
-        (seen_of (F.holds files.old) (F.faults files.old) (F.faults files.new)
-        (O.written out.old) (O.written out.new) (O.faults out.old) (O.faults out.new)) result }
+        (seen_of reads (F.faults files.old) (F.faults files.new)
+        (O.written out.old) (O.written out.new) (O.faults out.old) (O.faults out.new)) result) }
     ensures held { F.holds files.new ≡ F.holds files.old }
+    ensures told { AreTold (F.holds files.old) (F.answers files.old)
+        → AreTold (F.holds files.new) (F.answers files.new) }
     ensures allowed { (n : List ℕ) → F.may files.new n ≡ F.may files.old n }
     ensures later { F.faults files.old ≤ F.faults files.new }
     ensures written { O.faults out.old ≤ O.faults out.new }

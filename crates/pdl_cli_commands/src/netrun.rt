@@ -1,24 +1,25 @@
 // The run of a netlist from the files that a command names, whatever gives the netlist.
-ghost use Rattle.std.specs.Prelude.{◌≡◌, ◌≤◌, IsTrue, ℕ, List, All, Some, length};
-ghost use Rattle.pdl_kit.specs.Files.{Gives};
+ghost use Rattle.std.specs.Prelude.{◌≡◌, ◌≤◌, ◌∷◌, IsTrue, ℕ, List, All, Some, length};
+ghost use Rattle.pdl_system.specs.Answers.{Since, gave};
+ghost use Rattle.pdl_system.specs.Files.{AreTold};
 ghost use Rattle.pdl_semantics.specs.Tree.{Pipe as pipes};
 ghost use Rattle.pdl_net.specs.Pipe.{IsWellFormed};
 ghost use Rattle.pdl_law_follows.specs.Follows.{Follows};
 ghost use Rattle.pdl_image.specs.Images.{IsImage};
+ghost use Rattle.pdl_vread.specs.Reads.{Reads};
 ghost use Rattle.pdl_cli_args.specs.Line as command;
 ghost use Rattle.pdl_cli_args.specs.View.{text_of};
 ghost use Rattle.pdl_netrun_lines.specs.Printed.{run_text, schedule};
 ghost use Rattle.pdl_cli_commands.specs.Replies.{AllowsFile};
-ghost use Rattle.pdl_cli_commands.specs.Simulated.{HoldsNetlist};
 ghost use Rattle.pdl_cli_commands.specs.Commands.{IsAccepted};
 ghost use Rattle.pdl_cli_commands.specs.Outcomes.{seen_of, Explains, Streamed};
 
 use crate::start::{RunStart, start_of};
 use pdl_cli_failure::{Failure, in_text};
-use pdl_kit::files::Files;
 use pdl_kit::sink::Sink;
 use pdl_net::Netlist;
 use pdl_netrun_lines::{Schedule, run};
+use pdl_system::Files;
 use std::alloc::Global;
 
 // Writes the text of a run of a netlist while it runs.
@@ -60,16 +61,19 @@ pub fn run_netlist<F: Files, O: Sink>(
     requires well { IsWellFormed netlist.now }
     requires short { All (λ m. length m.name ≤ 32) netlist.now.mems }
     requires few { cycles ≤ 1000000 }
-    ensures source { (source b : List ℕ) (p : pipes) → Gives (F.holds files.old) source b
-        → IsAccepted b p → Follows p netlist.now
-        → Explains (Some (command.run source image.now cycles (text_of delays.entry)))
-        (seen_of (F.holds files.old) (F.faults files.old) (F.faults files.new)
-        (O.written out.old) (O.written out.new) (O.faults out.old) (O.faults out.new)) result }
-    ensures netlist { (v : List ℕ) → HoldsNetlist (F.holds files.old) v netlist.now
-        → Explains (Some (command.sim v image.now cycles (text_of delays.entry)))
-        (seen_of (F.holds files.old) (F.faults files.old) (F.faults files.new)
-        (O.written out.old) (O.written out.new) (O.faults out.old) (O.faults out.new)) result }
+    ensures source { (source b : List ℕ) (p : pipes) → IsAccepted b p → Follows p netlist.now
+        → Since (F.answers files.old) (F.answers files.new) (λ reads. Explains
+        (Some (command.run source image.now cycles (text_of delays.entry)))
+        (seen_of (gave source b ∷ reads) (F.faults files.old) (F.faults files.new)
+        (O.written out.old) (O.written out.new) (O.faults out.old) (O.faults out.new)) result) }
+    ensures netlist { (v b : List ℕ) → Reads b netlist.now
+        → Since (F.answers files.old) (F.answers files.new) (λ reads. Explains
+        (Some (command.sim v image.now cycles (text_of delays.entry)))
+        (seen_of (gave v b ∷ reads) (F.faults files.old) (F.faults files.new)
+        (O.written out.old) (O.written out.new) (O.faults out.old) (O.faults out.new)) result) }
     ensures held { F.holds files.new ≡ F.holds files.old }
+    ensures told { AreTold (F.holds files.old) (F.answers files.old)
+        → AreTold (F.holds files.new) (F.answers files.new) }
     ensures allowed { (n : List ℕ) → F.may files.new n ≡ F.may files.old n }
     ensures later { F.faults files.old ≤ F.faults files.new }
     ensures written { O.faults out.old ≤ O.faults out.new }

@@ -1,14 +1,16 @@
 // What the commands `check`, `run` and `seq` do.
-ghost use Rattle.std.specs.Prelude.{◌≡◌, ◌≤◌, IsTrue, IfOk, IfErr, ℕ, List, Option, Some, length};
-ghost use Rattle.pdl_kit.specs.Files.{Gives};
+ghost use Rattle.std.specs.Prelude.{◌≡◌, ◌≤◌, [], ◌∷◌, ◌++◌, IsTrue, IfOk, IfErr, ℕ, List, Some, length};
+ghost use Rattle.pdl_system.specs.Answers.{Since, gave};
+ghost use Rattle.pdl_system.specs.Files.{AreTold};
 ghost use Rattle.pdl_syntax_tree.specs.View.{pipe_view};
 ghost use Rattle.pdl_semantics.specs.Lines.{accepted_line as accepted_text};
 ghost use Rattle.pdl_image.specs.Images.{IsImage, IsRefusal, image as image_words};
 ghost use Rattle.pdl_cli_args.specs.Line as command;
 ghost use Rattle.pdl_cli_args.specs.View.{text_of};
 ghost use Rattle.pdl_cli_commands.specs.Replies.{AllowsFile};
-ghost use Rattle.pdl_cli_commands.specs.Commands.{IsAccepted, SourceFails, ImageFails, IsTaken, IsVerdict, Fails};
-ghost use Rattle.pdl_cli_commands.specs.Outcomes.{seen_of, Explains};
+ghost use Rattle.pdl_cli_commands.specs.Commands.{IsAccepted, IsTaken};
+ghost use Rattle.pdl_cli_commands.specs.Begun.{FileFails, IsRefusedSource, IsRefusedImage};
+ghost use Rattle.pdl_cli_commands.specs.Outcomes.{seen_of, Explains, IsMade, Fails};
 ghost use Rattle.pdl_rules.specs.Memories.{infos_of};
 
 use crate::netrun::run_netlist;
@@ -18,21 +20,26 @@ use pdl_check::check::check;
 use pdl_cli_failure::{Failure, in_memory};
 use pdl_image::{FileError, Image, read_image};
 use pdl_kit::NoMemory;
-use pdl_kit::files::{Files, LONGEST_FILE};
+use pdl_kit::files::LONGEST_FILE;
 use pdl_kit::sink::Sink;
 use pdl_pipe::compile;
+use pdl_system::Files;
 use pdl_trace::accepted_line;
 use std::alloc::Global;
 use std::mem::drop;
 
 /// Reads and checks a source.
+#[tactic(auto, using(crate::proofs::FileFailures::source_refused))]
 pub fn accept<F: Files>(alloc: Global, files: &mut F, name: &str) -> Result<Accepted, Failure>
     requires { IsTrue (F.may files.old name.now) }
-    ensures ok { IfOk result (λ a. (b : List ℕ) × Gives (F.holds files.old) name.now b
+    ensures ok { IfOk result (λ a. (b : List ℕ)
+        × (F.answers files.new ≡ F.answers files.old ++ gave name.now b ∷ [])
         × IsAccepted b (pipe_view a.typed.pipe)) }
-    ensures err { IfErr result
-        (SourceFails (F.holds files.old) (F.faults files.old) (F.faults files.new) name.now) }
+    ensures err { IfErr result (FileFails IsRefusedSource (F.answers files.old)
+        (F.answers files.new) (F.faults files.old) (F.faults files.new) name.now) }
     ensures held { F.holds files.new ≡ F.holds files.old }
+    ensures told { AreTold (F.holds files.old) (F.answers files.old)
+        → AreTold (F.holds files.new) (F.answers files.new) }
     ensures allowed { (n : List ℕ) → F.may files.new n ≡ F.may files.old n }
     ensures later { F.faults files.old ≤ F.faults files.new }
 {
@@ -41,6 +48,7 @@ pub fn accept<F: Files>(alloc: Global, files: &mut F, name: &str) -> Result<Acce
 }
 
 /// Reads an image for the memories of a pipe.
+#[tactic(auto, using(crate::proofs::FileFailures::image_refused))]
 pub fn load<F: Files>(
     alloc: Global,
     files: &mut F,
@@ -49,13 +57,17 @@ pub fn load<F: Files>(
 ) -> Result<Image, Failure>
     requires may { IsTrue (F.may files.old name.now) }
     requires accepted { (b : List ℕ) × IsAccepted b (pipe_view accepted.now.typed.pipe) }
-    ensures ok { IfOk result (λ i. (b : List ℕ) × Gives (F.holds files.old) name.now b
+    ensures ok { IfOk result (λ i. (b : List ℕ)
+        × (F.answers files.new ≡ F.answers files.old ++ gave name.now b ∷ [])
         × IsTaken (pipe_view accepted.now.typed.pipe) b i
         × IsImage (infos_of (pipe_view accepted.now.typed.pipe).mems) i) }
     ensures err { IfErr result
-        (ImageFails (F.holds files.old) (F.faults files.old) (F.faults files.new) name.now
-        (infos_of (pipe_view accepted.now.typed.pipe).mems)) }
+        (FileFails (IsRefusedImage (infos_of (pipe_view accepted.now.typed.pipe).mems))
+        (F.answers files.old) (F.answers files.new) (F.faults files.old) (F.faults files.new)
+        name.now) }
     ensures held { F.holds files.new ≡ F.holds files.old }
+    ensures told { AreTold (F.holds files.old) (F.answers files.old)
+        → AreTold (F.holds files.new) (F.answers files.new) }
     ensures allowed { (n : List ℕ) → F.may files.new n ≡ F.may files.old n }
     ensures later { F.faults files.old ≤ F.faults files.new }
 {
@@ -88,10 +100,14 @@ fn verdict_of(alloc: Global, accepted: &Accepted) -> Result<Vec<u8>, NoMemory>
 /// The text that `check` writes for a source with this name.
 pub fn verdict<F: Files>(alloc: Global, files: &mut F, source: &str) -> Result<Vec<u8>, Failure>
     requires { IsTrue (F.may files.old source.now) }
-    ensures ok { IfOk result (λ t. IsVerdict (F.holds files.old) source.now t.items) }
-    ensures err { IfErr result (Fails (F.holds files.old) (F.faults files.old) (F.faults files.new)
-        (command.check source.now)) }
+    ensures ok { IfOk result (λ t. Since (F.answers files.old) (F.answers files.new)
+        (λ reads. IsMade (command.check source.now) reads t.items)) }
+    ensures err { IfErr result (λ f. Since (F.answers files.old) (F.answers files.new)
+        (λ reads. Fails (command.check source.now) reads (F.faults files.old)
+        (F.faults files.new) f)) }
     ensures held { F.holds files.new ≡ F.holds files.old }
+    ensures told { AreTold (F.holds files.old) (F.answers files.old)
+        → AreTold (F.holds files.new) (F.answers files.new) }
     ensures allowed { (n : List ℕ) → F.may files.new n ≡ F.may files.old n }
     ensures later { F.faults files.old ≤ F.faults files.new }
 {
@@ -101,7 +117,7 @@ pub fn verdict<F: Files>(alloc: Global, files: &mut F, source: &str) -> Result<V
     text
 }
 
-// Runs the netlist of an accepted pipe from the image with this name, with the replies of the delay file, if one is named: as the command does for whatever source gives the pipe.
+// Runs the netlist of an accepted pipe from the image with this name, with the replies of the delay file, if one is named: as the command does for whatever source is the pipe's text.
 fn run_accepted<F: Files, O: Sink>(
     alloc: Global,
     files: &mut F,
@@ -115,12 +131,14 @@ fn run_accepted<F: Files, O: Sink>(
     requires delays { AllowsFile (F.may files.old) (text_of delays) }
     requires accepted { (b : List ℕ) × IsAccepted b (pipe_view accepted.now.typed.pipe) }
     requires few { cycles ≤ 1000000 }
-    ensures explained { (source b : List ℕ) → Gives (F.holds files.old) source b
-        → IsAccepted b (pipe_view accepted.now.typed.pipe)
-        → Explains (Some (command.run source image.now cycles (text_of delays.entry)))
-        (seen_of (F.holds files.old) (F.faults files.old) (F.faults files.new)
-        (O.written out.old) (O.written out.new) (O.faults out.old) (O.faults out.new)) result }
+    ensures explained { (source b : List ℕ) → IsAccepted b (pipe_view accepted.now.typed.pipe)
+        → Since (F.answers files.old) (F.answers files.new) (λ reads. Explains
+        (Some (command.run source image.now cycles (text_of delays.entry)))
+        (seen_of (gave source b ∷ reads) (F.faults files.old) (F.faults files.new)
+        (O.written out.old) (O.written out.new) (O.faults out.old) (O.faults out.new)) result) }
     ensures held { F.holds files.new ≡ F.holds files.old }
+    ensures told { AreTold (F.holds files.old) (F.answers files.old)
+        → AreTold (F.holds files.new) (F.answers files.new) }
     ensures allowed { (n : List ℕ) → F.may files.new n ≡ F.may files.old n }
     ensures later { F.faults files.old ≤ F.faults files.new }
     ensures written { O.faults out.old ≤ O.faults out.new }
@@ -142,12 +160,14 @@ fn run_accepted_in_turn<F: Files, O: Sink>(
 ) -> Result<(), Failure>
     requires image { IsTrue (F.may files.old image.now) }
     requires accepted { (b : List ℕ) × IsAccepted b (pipe_view accepted.now.typed.pipe) }
-    ensures explained { (source b : List ℕ) → Gives (F.holds files.old) source b
-        → IsAccepted b (pipe_view accepted.now.typed.pipe)
-        → Explains (Some (command.seq source image.now threads))
-        (seen_of (F.holds files.old) (F.faults files.old) (F.faults files.new)
-        (O.written out.old) (O.written out.new) (O.faults out.old) (O.faults out.new)) result }
+    ensures explained { (source b : List ℕ) → IsAccepted b (pipe_view accepted.now.typed.pipe)
+        → Since (F.answers files.old) (F.answers files.new) (λ reads. Explains
+        (Some (command.seq source image.now threads))
+        (seen_of (gave source b ∷ reads) (F.faults files.old) (F.faults files.new)
+        (O.written out.old) (O.written out.new) (O.faults out.old) (O.faults out.new)) result) }
     ensures held { F.holds files.new ≡ F.holds files.old }
+    ensures told { AreTold (F.holds files.old) (F.answers files.old)
+        → AreTold (F.holds files.new) (F.answers files.new) }
     ensures allowed { (n : List ℕ) → F.may files.new n ≡ F.may files.old n }
     ensures later { F.faults files.old ≤ F.faults files.new }
     ensures written { O.faults out.old ≤ O.faults out.new }
@@ -172,11 +192,13 @@ pub fn run_source<F: Files, O: Sink>(
     requires image { IsTrue (F.may files.old image.now) }
     requires delays { AllowsFile (F.may files.old) (text_of delays) }
     requires few { cycles ≤ 1000000 }
-    ensures explained { Explains
+    ensures explained { Since (F.answers files.old) (F.answers files.new) (λ reads. Explains
         (Some (command.run source.now image.now cycles (text_of delays.entry)))
-        (seen_of (F.holds files.old) (F.faults files.old) (F.faults files.new)
-        (O.written out.old) (O.written out.new) (O.faults out.old) (O.faults out.new)) result }
+        (seen_of reads (F.faults files.old) (F.faults files.new)
+        (O.written out.old) (O.written out.new) (O.faults out.old) (O.faults out.new)) result) }
     ensures held { F.holds files.new ≡ F.holds files.old }
+    ensures told { AreTold (F.holds files.old) (F.answers files.old)
+        → AreTold (F.holds files.new) (F.answers files.new) }
     ensures allowed { (n : List ℕ) → F.may files.new n ≡ F.may files.old n }
     ensures later { F.faults files.old ≤ F.faults files.new }
     ensures written { O.faults out.old ≤ O.faults out.new }
@@ -198,10 +220,13 @@ pub fn run_in_turn<F: Files, O: Sink>(
 ) -> Result<(), Failure>
     requires source { IsTrue (F.may files.old source.now) }
     requires image { IsTrue (F.may files.old image.now) }
-    ensures explained { Explains (Some (command.seq source.now image.now threads))
-        (seen_of (F.holds files.old) (F.faults files.old) (F.faults files.new)
-        (O.written out.old) (O.written out.new) (O.faults out.old) (O.faults out.new)) result }
+    ensures explained { Since (F.answers files.old) (F.answers files.new) (λ reads. Explains
+        (Some (command.seq source.now image.now threads))
+        (seen_of reads (F.faults files.old) (F.faults files.new)
+        (O.written out.old) (O.written out.new) (O.faults out.old) (O.faults out.new)) result) }
     ensures held { F.holds files.new ≡ F.holds files.old }
+    ensures told { AreTold (F.holds files.old) (F.answers files.old)
+        → AreTold (F.holds files.new) (F.answers files.new) }
     ensures allowed { (n : List ℕ) → F.may files.new n ≡ F.may files.old n }
     ensures later { F.faults files.old ≤ F.faults files.new }
     ensures written { O.faults out.old ≤ O.faults out.new }

@@ -1,27 +1,33 @@
 // What the command `sim` does.
-ghost use Rattle.std.specs.Prelude.{◌≡◌, ◌≤◌, IsTrue, IfOk, IfErr, ℕ, List, Some};
+ghost use Rattle.std.specs.Prelude.{◌≡◌, ◌≤◌, [], ◌∷◌, ◌++◌, IsTrue, IfOk, IfErr, ℕ, List, Some};
+ghost use Rattle.pdl_system.specs.Answers.{Since, gave};
+ghost use Rattle.pdl_system.specs.Files.{AreTold};
+ghost use Rattle.pdl_vread.specs.Reads.{Reads};
 ghost use Rattle.pdl_cli_args.specs.Line as command;
 ghost use Rattle.pdl_cli_args.specs.View.{text_of};
 ghost use Rattle.pdl_cli_commands.specs.Replies.{AllowsFile};
-ghost use Rattle.pdl_cli_commands.specs.Simulated.{HoldsNetlist};
-ghost use Rattle.pdl_cli_commands.specs.Commands.{NetlistFails};
+ghost use Rattle.pdl_cli_commands.specs.Begun.{FileFails, IsRefusedNetlist};
 ghost use Rattle.pdl_cli_commands.specs.Outcomes.{seen_of, Explains};
 
 use crate::netrun::run_netlist;
 use pdl_cli_failure::Failure;
-use pdl_kit::files::Files;
 use pdl_kit::sink::Sink;
 use pdl_net::Netlist;
+use pdl_system::Files;
 use pdl_vread::read_verilog;
 use std::alloc::Global;
 
 // Reads a netlist.
+#[tactic(auto, using(crate::proofs::FileFailures::netlist_refused))]
 fn netlist_of_file<F: Files>(alloc: Global, files: &mut F, name: &str) -> Result<Netlist, Failure>
     requires { IsTrue (F.may files.old name.now) }
-    ensures ok { IfOk result (λ n. HoldsNetlist (F.holds files.old) name.now n) }
-    ensures err { IfErr result
-        (NetlistFails (F.holds files.old) (F.faults files.old) (F.faults files.new) name.now) }
+    ensures ok { IfOk result (λ n. (b : List ℕ)
+        × (F.answers files.new ≡ F.answers files.old ++ gave name.now b ∷ []) × Reads b n) }
+    ensures err { IfErr result (FileFails IsRefusedNetlist (F.answers files.old)
+        (F.answers files.new) (F.faults files.old) (F.faults files.new) name.now) }
     ensures held { F.holds files.new ≡ F.holds files.old }
+    ensures told { AreTold (F.holds files.old) (F.answers files.old)
+        → AreTold (F.holds files.new) (F.answers files.new) }
     ensures allowed { (n : List ℕ) → F.may files.new n ≡ F.may files.old n }
     ensures later { F.faults files.old ≤ F.faults files.new }
 {
@@ -43,11 +49,13 @@ pub fn simulate<F: Files, O: Sink>(
     requires image { IsTrue (F.may files.old image.now) }
     requires delays { AllowsFile (F.may files.old) (text_of delays) }
     requires few { cycles ≤ 1000000 }
-    ensures explained { Explains
+    ensures explained { Since (F.answers files.old) (F.answers files.new) (λ reads. Explains
         (Some (command.sim netlist.now image.now cycles (text_of delays.entry)))
-        (seen_of (F.holds files.old) (F.faults files.old) (F.faults files.new)
-        (O.written out.old) (O.written out.new) (O.faults out.old) (O.faults out.new)) result }
+        (seen_of reads (F.faults files.old) (F.faults files.new)
+        (O.written out.old) (O.written out.new) (O.faults out.old) (O.faults out.new)) result) }
     ensures held { F.holds files.new ≡ F.holds files.old }
+    ensures told { AreTold (F.holds files.old) (F.answers files.old)
+        → AreTold (F.holds files.new) (F.answers files.new) }
     ensures allowed { (n : List ℕ) → F.may files.new n ≡ F.may files.old n }
     ensures later { F.faults files.old ≤ F.faults files.new }
     ensures written { O.faults out.old ≤ O.faults out.new }

@@ -1,6 +1,7 @@
 // What the command `view` does.
-ghost use Rattle.std.specs.Prelude.{◌≡◌, ◌≤◌, IsTrue, IfOk, IfErr, ℕ, List, Some, count_by};
-ghost use Rattle.pdl_kit.specs.Files.{Gives};
+ghost use Rattle.std.specs.Prelude.{◌≡◌, ◌≤◌, ◌∷◌, IsTrue, IfOk, IfErr, ℕ, List, Some, count_by};
+ghost use Rattle.pdl_system.specs.Answers.{Since, gave};
+ghost use Rattle.pdl_system.specs.Files.{AreTold};
 ghost use Rattle.pdl_syntax_tree.specs.View.{pipe_view};
 ghost use Rattle.pdl_semantics.specs.Flatten.{flat};
 ghost use Rattle.pdl_semantics.specs.Lines.{view_lines};
@@ -11,7 +12,8 @@ ghost use Rattle.pdl_cli_args.specs.Line as command;
 ghost use Rattle.pdl_cli_args.specs.View.{text_of};
 ghost use Rattle.pdl_netrun_lines.specs.Printed.{schedule};
 ghost use Rattle.pdl_cli_commands.specs.Replies.{AllowsFile};
-ghost use Rattle.pdl_cli_commands.specs.Commands.{IsAccepted, StartFails, IsBegun};
+ghost use Rattle.pdl_cli_commands.specs.Commands.{IsAccepted};
+ghost use Rattle.pdl_cli_commands.specs.Begun.{StartFails, IsBegun};
 ghost use Rattle.pdl_cli_commands.specs.Outcomes.{seen_of, Explains, Streamed};
 ghost use Rattle.pdl_rules.specs.Memories.{infos_of};
 
@@ -20,9 +22,9 @@ use crate::start::{RunStart, replies};
 use pdl_check::Accepted;
 use pdl_cli_failure::{Failure, in_text};
 use pdl_kit::MemInfo;
-use pdl_kit::files::Files;
 use pdl_kit::sink::Sink;
 use pdl_machine_view::view;
+use pdl_system::Files;
 use std::alloc::Global;
 
 // How many memories are delayed.
@@ -41,6 +43,7 @@ fn few_delayed(accepted: &Accepted) -> u8
 }
 
 // Reads an image of this name for the memories of a pipe, and after it the delay file for its delayed ones, if one is named.
+#[tactic(auto, using(crate::proofs::Starts::is_begun, crate::proofs::Starts::replies_off))]
 fn start_of<F: Files>(
     alloc: Global,
     files: &mut F,
@@ -51,14 +54,16 @@ fn start_of<F: Files>(
     requires image { IsTrue (F.may files.old image.now) }
     requires delays { AllowsFile (F.may files.old) (text_of delays) }
     requires accepted { (b : List ℕ) × IsAccepted b (pipe_view accepted.now.typed.pipe) }
-    ensures ok { IfOk result (λ s. IsBegun (F.holds files.old) image.now (text_of delays.entry)
-        (infos_of (pipe_view accepted.now.typed.pipe).mems)
+    ensures ok { IfOk result (λ s. IsBegun (F.answers files.old) (F.answers files.new) image.now
+        (text_of delays.entry) (infos_of (pipe_view accepted.now.typed.pipe).mems)
         (delayed_count (flat (pipe_view accepted.now.typed.pipe))) s.image s.delays) }
-    ensures err { IfErr result (StartFails (F.holds files.old) (F.faults files.old)
-        (F.faults files.new) image.now (text_of delays.entry)
+    ensures err { IfErr result (StartFails (F.answers files.old) (F.answers files.new)
+        (F.faults files.old) (F.faults files.new) image.now (text_of delays.entry)
         (infos_of (pipe_view accepted.now.typed.pipe).mems)
         (delayed_count (flat (pipe_view accepted.now.typed.pipe)))) }
     ensures held { F.holds files.new ≡ F.holds files.old }
+    ensures told { AreTold (F.holds files.old) (F.answers files.old)
+        → AreTold (F.holds files.new) (F.answers files.new) }
     ensures allowed { (n : List ℕ) → F.may files.new n ≡ F.may files.old n }
     ensures later { F.faults files.old ≤ F.faults files.new }
 {
@@ -87,7 +92,7 @@ fn print_view<O: Sink>(
     in_text(view(alloc, accepted, image, &start.delays, cycles, out))
 }
 
-// Shows the stages of an accepted pipe in a run from the image with this name, with the replies of the delay file, if one is named: as the command does for whatever source gives the pipe.
+// Shows the stages of an accepted pipe in a run from the image with this name, with the replies of the delay file, if one is named: as the command does for whatever source is the pipe's text.
 fn view_accepted<F: Files, O: Sink>(
     alloc: Global,
     files: &mut F,
@@ -101,12 +106,14 @@ fn view_accepted<F: Files, O: Sink>(
     requires delays { AllowsFile (F.may files.old) (text_of delays) }
     requires accepted { (b : List ℕ) × IsAccepted b (pipe_view accepted.now.typed.pipe) }
     requires few { cycles ≤ 1000000 }
-    ensures explained { (source b : List ℕ) → Gives (F.holds files.old) source b
-        → IsAccepted b (pipe_view accepted.now.typed.pipe)
-        → Explains (Some (command.view source image.now cycles (text_of delays.entry)))
-        (seen_of (F.holds files.old) (F.faults files.old) (F.faults files.new)
-        (O.written out.old) (O.written out.new) (O.faults out.old) (O.faults out.new)) result }
+    ensures explained { (source b : List ℕ) → IsAccepted b (pipe_view accepted.now.typed.pipe)
+        → Since (F.answers files.old) (F.answers files.new) (λ reads. Explains
+        (Some (command.view source image.now cycles (text_of delays.entry)))
+        (seen_of (gave source b ∷ reads) (F.faults files.old) (F.faults files.new)
+        (O.written out.old) (O.written out.new) (O.faults out.old) (O.faults out.new)) result) }
     ensures held { F.holds files.new ≡ F.holds files.old }
+    ensures told { AreTold (F.holds files.old) (F.answers files.old)
+        → AreTold (F.holds files.new) (F.answers files.new) }
     ensures allowed { (n : List ℕ) → F.may files.new n ≡ F.may files.old n }
     ensures later { F.faults files.old ≤ F.faults files.new }
     ensures written { O.faults out.old ≤ O.faults out.new }
@@ -131,11 +138,13 @@ pub fn view_source<F: Files, O: Sink>(
     requires image { IsTrue (F.may files.old image.now) }
     requires delays { AllowsFile (F.may files.old) (text_of delays) }
     requires few { cycles ≤ 1000000 }
-    ensures explained { Explains
+    ensures explained { Since (F.answers files.old) (F.answers files.new) (λ reads. Explains
         (Some (command.view source.now image.now cycles (text_of delays.entry)))
-        (seen_of (F.holds files.old) (F.faults files.old) (F.faults files.new)
-        (O.written out.old) (O.written out.new) (O.faults out.old) (O.faults out.new)) result }
+        (seen_of reads (F.faults files.old) (F.faults files.new)
+        (O.written out.old) (O.written out.new) (O.faults out.old) (O.faults out.new)) result) }
     ensures held { F.holds files.new ≡ F.holds files.old }
+    ensures told { AreTold (F.holds files.old) (F.answers files.old)
+        → AreTold (F.holds files.new) (F.answers files.new) }
     ensures allowed { (n : List ℕ) → F.may files.new n ≡ F.may files.old n }
     ensures later { F.faults files.old ≤ F.faults files.new }
     ensures written { O.faults out.old ≤ O.faults out.new }

@@ -7,7 +7,7 @@ use Rattle.pdl_rules.specs.Typed.{is_named}
 use Rattle.pdl_form_types.specs.Apart.{flag_at}
 use Rattle.pdl_rules.proofs.SingleWrites.{any_last}
 use Rattle.pdl_rules.proofs.KnownVariables.{Stays, stays_more, any_split}
-use Rattle.pdl_word.proofs.Bytes.{bytes_same}
+use Rattle.pdl_semantics.proofs.Bytes.{bytes_same}
 
 -- the widths of variables
 abbrev pub widths_of : List Var → List ℕ

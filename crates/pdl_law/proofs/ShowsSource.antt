@@ -10,7 +10,7 @@ use Rattle.pdl_rules.specs.Typed.{is_memory, AreDistinct}
 use Rattle.pdl_rules.specs.Refusal.{KeepsRules}
 use Rattle.pdl_source_paths.specs.Source.{is_source, is_named}
 use Rattle.pdl_source_paths.proofs.Memories.{all_after, distinct}
-use Rattle.pdl_source_strict.proofs.Paths.{paths_strict}
+use Rattle.pdl_machine_lockuse.proofs.StrictPaths.{paths_strict}
 use Rattle.pdl_machine_lockuse.proofs.FromRules.{careful_source}
 use Rattle.pdl_net.specs.declared.Netlist.{Netlist}
 use Rattle.pdl_net.specs.Circuit.{circuit_of}

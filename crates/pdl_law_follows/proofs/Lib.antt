@@ -10,3 +10,4 @@ pub mod Lines
 pub mod Sequential
 pub mod Images
 pub mod FollowsLike
+pub use Rattle.pdl_law.proofs as law

@@ -15,7 +15,7 @@ use Rattle.pdl_net.specs.Circuit.{State}
 use Rattle.pdl_net.specs.Signal.{Signal, mux_signal}
 use Rattle.pdl_lockapi.specs.Forget.{has_place, place_of}
 use Rattle.pdl_lockapi.proofs.Places.{place_front, place_behind, once_front, once_behind}
-use Rattle.pdl_theory_turns.proofs.Steps.{new_more}
+use Rattle.pdl_machine_facts.proofs.theory_turns.Steps.{new_more}
 use Rattle.pdl_law_parts.specs.declared.Mark.{Mark}
 use Rattle.pdl_law_parts.specs.declared.Mark.TheVariants.{Late}
 use Rattle.pdl_law_parts.specs.Walk.{Locks, Reservation, with_mark, reserved_signal, late_after}

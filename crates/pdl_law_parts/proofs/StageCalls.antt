@@ -9,7 +9,7 @@ use Rattle.pdl_semantics.specs.Machine as machine
 use Rattle.pdl_semantics.specs.Machine.{Deeds, all_values, same_args, after_verify}
 use Rattle.pdl_net.specs.Circuit.{Circuit, State}
 use Rattle.pdl_net.specs.Signal.{Signal, mux_signal}
-use Rattle.pdl_theory_turns.proofs.Guesses.{same_args_eq}
+use Rattle.pdl_machine_facts.proofs.theory_turns.Guesses.{same_args_eq}
 use Rattle.pdl_machine_facts.specs.Slots.{locks_ready}
 use Rattle.pdl_law_parts.specs.Lives.{are_using, guards_use, lives_from}
 use Rattle.pdl_law_parts.specs.Walk.{Locks, Row, Walk, one, both, walk_after, values_at}

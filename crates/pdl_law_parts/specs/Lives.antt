@@ -2,7 +2,7 @@
 use Rattle.std.specs.Prelude.{ℕ, Bool, false, ◌==◌, ◌&&◌, ◌||◌, List, [], ◌∷◌, nat_le, drop}
 use Rattle.pdl_semantics.specs.Flat.{Expr, Op, Bind, CombRead, DelayedRead, Write, ReserveRead, ReserveWrite, Block, Release, Call, SpecCall, Verify, SpecCheck, SpecBarrier, AdviceBind, AdviceRead, AdviceWrite, Guard, Stmt, Next, Ends, Goes, Forks, Stage, Pipe}
 use Rattle.pdl_semantics.specs.Stages.{list_any, is_verify}
-use Rattle.pdl_theory_facts.specs.Facts.{uses_in, uses_any}
+use Rattle.pdl_source_stages.specs.Facts.{uses_in, uses_any}
 use Rattle.pdl_law_parts.specs.declared.Mark.{Mark}
 use Rattle.pdl_law_parts.specs.declared.Mark.TheVariants.{Held, Late}
 

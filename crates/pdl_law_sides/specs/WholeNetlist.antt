@@ -16,7 +16,7 @@ use Rattle.pdl_net.specs.Run.{delayed_mems, nports}
 use Rattle.pdl_image.specs.Images.{IsImage}
 use Rattle.pdl_lockapi.specs.Lock.{start}
 use Rattle.pdl_lockapi.specs.Laws.{IsReset, HasImage, words_of}
-pub use Rattle.pdl_machine_facts.specs.Ports.{replies_of, request_values, all_request_values, whole_values}
+pub use Rattle.pdl_machine_inflight.specs.Ports.{replies_of, request_values, all_request_values, whole_values}
 use Rattle.pdl_law_parts.specs.Walk.{Locks, is_locked, zero_bit}
 use Rattle.pdl_law_parts.specs.Places.{delayed_count, comb_place, net_place}
 use Rattle.pdl_law_parts.specs.Views.{View, Gates}

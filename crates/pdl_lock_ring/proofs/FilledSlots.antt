@@ -1,5 +1,5 @@
 -- What the slots hold after the reservations and the writes of a cycle.
-use Rattle.std.proofs.Common.{◌≡◌, ◌≢◌, ℕ, zero, suc, ◌+◌, ◌%◌, ◌^◌, ◌<◌, ◌≤◌, List, [], ◌∷◌, ◌++◌, length, take, map, refl, sym, ap, ◌∙◌, subst, add-one, arith, ⊎_elim, length-append}
+use Rattle.std.proofs.Common.{◌≡◌, ◌≢◌, ℕ, zero, suc, ◌+◌, ◌-◌, ◌%◌, ◌^◌, ◌<◌, ◌≤◌, List, [], ◌∷◌, ◌++◌, length, take, map, refl, sym, ap, ◌∙◌, subst, add-one, arith, ⊎_elim, length-append}
 use Rattle.std.specs.Prelude.{◌==◌, if◌then◌else◌, Bool, true, false}
 use Rattle.std.proofs.lemmas.Bool.{cases_eq}
 use Rattle.std.proofs.lemmas.List.{take_more, take_all, length-map}
@@ -12,7 +12,7 @@ use Rattle.pdl_lockapi.specs.Laws.{StepSignals, ReserveSignal, reserve_at, ticke
 use Rattle.pdl_lock_ring.specs.declared.layout.RingLayout.{RingLayout}
 use Rattle.pdl_lock_ring.specs.Slots.{IsSized, HasEntries, Holds, reg_of, addr_at, has_at}
 use Rattle.pdl_lock_ring.specs.Looks.{slot_of, tail_signal, second_ticket}
-use Rattle.pdl_lock_ring.specs.Steps.{push_signal, push2_signal, last_addr, before_addr, pushes, pushes2, first_addr, second_addr, first_slot, second_slot, written_slot, fills_slot, filled_bit, filled_value, slot_addr, slot_bit}
+use Rattle.pdl_lock_ring.specs.Steps.{push_signal, push2_signal, last_addr, before_addr, pushes, pushes2, first_addr, second_addr, first_slot, second_slot, written_slot, fills_slot, filled_bit, filled_value, number_at, reserved_addr, slot_addr, slot_bit}
 use Rattle.pdl_lock_ring.proofs.SlotNumbers.{slot_held, half_mod, sum_held}
 use Rattle.pdl_lock_ring.proofs.RingValues.{if_one, if_other, mux_one, mux_zero, eq_none, AreGiven, holds_same, append_holds, put_holds, written-push, length-written}
 
@@ -245,8 +245,8 @@ module _ (l : RingLayout) (v : ℕ → Signal) (s : State) (x : LockState) (f : 
   -- after the reservations
   appended_holds : Cycle l v s x f a
       → Holds l.size x.base (λ k. (slot_addr l f k).value s) (λ k. (filled_bit l f k 0).value s)
-      (λ k. (filled_value l f (v k) k 0).value s) (with_reserves a.reserves x.entries)
-  unfolding slot_addr filled_bit filled_value mux_value bin_value reg_value const_value
+      (λ k. (filled_value l f (v k) (number_at l k) 0).value s) (with_reserves a.reserves x.entries)
+  unfolding reserved_addr filled_bit filled_value mux_value bin_value reg_value const_value
   appended_holds c =
       append_holds l.size x.base (λ k. reg_of s (addr_at l k)) (λ k. reg_of s (has_at l k))
       (λ k. (v k).value s) x.entries a.reserves ((first_slot l f).value s) ((second_slot l f).value s)
@@ -283,7 +283,7 @@ module _ (l : RingLayout) (v : ℕ → Signal) (s : State) (x : LockState) (f : 
   -- after the first j write ports
   filled_holds : Cycle l v s x f a → (j : ℕ) → j ≤ length a.writes
       → Holds l.size x.base (λ k. (slot_addr l f k).value s) (λ k. (filled_bit l f k j).value s)
-      (λ k. (filled_value l f (v k) k j).value s)
+      (λ k. (filled_value l f (v k) (number_at l k) j).value s)
       (with_writes x.base (take j a.writes) (with_reserves a.reserves x.entries))
   unfolding filled_bit filled_value mux_value const_value
   filled_holds c zero h = appended_holds c
@@ -299,12 +299,12 @@ module _ (l : RingLayout) (v : ℕ → Signal) (s : State) (x : LockState) (f : 
       ∙ written-push x.base (take j a.writes) w ys in
       let P : List Entry → Type 0 =
       λ zs. Holds l.size x.base (λ k. (slot_addr l f k).value s) (λ k. (filled_bit l f k (suc j)).value s)
-      (λ k. (filled_value l f (v k) k (suc j)).value s) zs in
+      (λ k. (filled_value l f (v k) (number_at l k) (suc j)).value s) zs in
       subst P (sym e)
       (holds_same l.size x.base _ _ _ _ _ _ (with_write x.base w (with_writes x.base (take j a.writes) ys)) c.sized.some (λ k m. refl) (λ k m. refl)
-      (λ k m. ap (λ n. words.mux ((fills_slot l f k j).value s) n ((filled_value l f (v k) k j).value s)) (c.drives.value j lt))
+      (λ k m. ap (λ n. words.mux ((fills_slot l f k j).value s) n ((filled_value l f (v k) (number_at l k) j).value s)) (c.drives.value j lt))
       (put_holds l.size x.base w (λ k. (slot_addr l f k).value s) (λ k. (filled_bit l f k j).value s)
-      (λ k. (filled_value l f (v k) k j).value s) (λ k. (fills_slot l f k j).value s)
+      (λ k. (filled_value l f (v k) (number_at l k) j).value s) (λ k. (fills_slot l f k j).value s)
       (with_writes x.base (take j a.writes) ys)
       c.sized.some (λ o. c.proper.from j lt o)
       (λ o. omega (arith, len, c.proper.from j lt o, c.proper.below j lt o))
@@ -318,15 +318,15 @@ module _ (l : RingLayout) (v : ℕ → Signal) (s : State) (x : LockState) (f : 
   -- after all write ports the slots hold the pending writes with the cycle's reservations and values
   pub all_filled : Cycle l v s x f a
       → Holds l.size x.base (λ k. (slot_addr l f k).value s) (λ k. (slot_bit l f k).value s)
-      (λ k. (filled_value l f (v k) k (length f.writes)).value s) (filled_entries x a)
+      (λ k. (filled_value l f (v k) (number_at l k) (length f.writes)).value s) (filled_entries x a)
   all_filled c =
       let h = filled_holds c (length a.writes) (omega arith) in
       let P : ℕ → Type 0 =
       λ n. Holds l.size x.base (λ k. (slot_addr l f k).value s) (λ k. (filled_bit l f k n).value s)
-      (λ k. (filled_value l f (v k) k n).value s) (filled_entries x a) in
+      (λ k. (filled_value l f (v k) (number_at l k) n).value s) (filled_entries x a) in
       let Q : List WriteAct → Type 0 =
       λ ws. Holds l.size x.base (λ k. (slot_addr l f k).value s) (λ k. (filled_bit l f k (length a.writes)).value s)
-      (λ k. (filled_value l f (v k) k (length a.writes)).value s)
+      (λ k. (filled_value l f (v k) (number_at l k) (length a.writes)).value s)
       (with_writes x.base ws (with_reserves a.reserves x.entries)) in
       subst P c.drives.count (subst Q (take_all (length a.writes) a.writes (omega arith)) h)
 

@@ -1,30 +1,30 @@
 -- A step's law: what it commits, and what the next state stands for.
-use Rattle.std.proofs.Common.{◌≡◌, ℕ, ◌+◌, ◌-◌, ◌*◌, ◌%◌, ◌^◌, ◌<◌, ◌≤◌, List, [], ◌∷◌, length, take, drop, refl, sym, ap, ◌∙◌, arith, length-take, length-drop}
+use Rattle.std.proofs.Common.{◌≡◌, ℕ, zero, suc, ◌+◌, ◌-◌, ◌*◌, ◌%◌, ◌^◌, ◌<◌, ◌≤◌, List, [], ◌∷◌, length, take, drop, refl, sym, ap, ◌∙◌, arith, length-take, length-drop}
 use Rattle.std.specs.Prelude.{◌==◌, if◌then◌else◌, Bool, true, false, Option, Some, None, is_some, slice_set, slice_index_or}
 use Rattle.std.proofs.lemmas.Nat.{mod_below}
 use Rattle.pdl_word.specs.Words as words
 use Rattle.pdl_word.specs.Words.{bit}
 use Rattle.pdl_net.specs.Circuit.{Circuit, State}
 use Rattle.pdl_net.specs.Growth.{Own}
-use Rattle.pdl_net.specs.Signal.{Signal, reg_value, const_value, bin_value, mux_value, mux_signal, const_signal}
+use Rattle.pdl_net.specs.Signal.{Signal, reg_signal, reg_value, const_value, bin_value, mux_value, mux_signal, const_signal}
 use Rattle.pdl_lockapi.specs.Lock.{Entry, LockState, LockAct, Proper, entry_at, or_zero, filled_entries, next_base, after_release, after_squash, committed, committed_words, step}
 use Rattle.pdl_lockapi.specs.Laws.{StepSignals, Drives, HasWords, IsNext, StepLaw, after_writes, first_array, end_array}
 use Rattle.pdl_lockapi.specs.Second.{Commit2Law}
 use Rattle.pdl_lock_ring.specs.declared.layout.RingLayout.{RingLayout}
 use Rattle.pdl_lock_ring.specs.declared.layout.Content.TheVariants.{Value}
 use Rattle.pdl_lock_ring.specs.Slots.{IsSized, HasEntries, Holds, Stands, content_signal, reg_of, addr_at, has_at, value_at}
-use Rattle.pdl_lock_ring.specs.Looks.{head_signal}
-use Rattle.pdl_lock_ring.specs.Steps.{pushes, pushes2, next_head, head_after, tail_after, slot_addr, slot_bit, slot_value, filled_value, at_ticket, oldest_addr, oldest_value, next_addr, next_value, two_writes, NextAddrs, NextBits, NextEnds, NextValues, own_all}
+use Rattle.pdl_lock_ring.specs.Looks.{head_signal, slot_of}
+use Rattle.pdl_lock_ring.specs.Steps.{pushes, pushes2, next_head, head_after, tail_after, number_at, reserved_addr, slot_addr, slot_bit, filled_value, at_ticket, addr_of, content_of, oldest_addr, oldest_value, next_addr, next_value, two_writes, NextAddrs, NextBits, NextEnds, NextValues, own_all}
 use Rattle.pdl_lock_ring.proofs.SlotNumbers.{sum_held, half_mod}
 use Rattle.pdl_lock_ring.proofs.RingValues.{test_bit, mux_one, mux_zero, holds_same, values_same, drop_holds, take_holds}
 use Rattle.pdl_lock_ring.proofs.Trees.{selected_value}
 use Rattle.pdl_lock_ring.proofs.Fills.{content_value}
 use Rattle.pdl_lock_ring.proofs.LookValues.{some_of}
-use Rattle.pdl_lock_ring.proofs.FilledSlots.{TicketsFit, Cycle, some, two, all_filled, length_filled, pushes_value, pushes2_value}
+use Rattle.pdl_lock_ring.proofs.FilledSlots.{TicketsFit, Cycle, some, two, slot_value, all_filled, length_filled, pushes_value, pushes2_value}
 
 -- slot k's value after the writes, from what is given as the value before them
 abbrev pub after_fill : RingLayout → StepSignals → (ℕ → Signal) → ℕ → Signal
-after_fill l f v k = filled_value l f (v k) k (length f.writes)
+after_fill l f v k = filled_value l f (v k) (number_at l k) (length f.writes)
 
 -- a list whose first pending write has a value has at least one
 pub there_first : (xs : List Entry) → is_some (entry_at xs 0).value ≡ true → 0 < length xs
@@ -42,6 +42,19 @@ pub same_choice : {A : Type 0} (t : Bool) (x y z : A) → (t ≡ true → x ≡ 
 same_choice true x y z h = h refl
 same_choice false x y z h = refl
 
+-- where addresses and slots have the same values, they are the same after a cycle's reservations
+reserved_as : (l : RingLayout) (f : StepSignals) (s : State) (a a' t t' : Signal) → a.value s ≡ a'.value s → t.value s ≡ t'.value s
+    → (reserved_addr l f a t).value s ≡ (reserved_addr l f a' t').value s
+unfolding reserved_addr mux_value bin_value
+reserved_as l f s a a' t t' p q = cc
+
+-- where values and slots are the same, they are so after the first j write ports
+pub filled_as : (l : RingLayout) (f : StepSignals) (s : State) (a a' t t' : Signal) (j : ℕ) → a.value s ≡ a'.value s → t.value s ≡ t'.value s
+    → (filled_value l f a t j).value s ≡ (filled_value l f a' t' j).value s
+unfolding filled_value mux_value bin_value
+filled_as l f s a a' t t' zero p q = p
+filled_as l f s a a' t t' (suc j) p q = let r = filled_as l f s a a' t t' j p q in cc
+
 -- the signal of a ticket's slot
 pub ticket_value : (l : RingLayout) → IsSized l → (g : ℕ → Signal) (t : Signal) (s : State) (n : ℕ)
     → t.value s ≡ n % 2 ^ l.ticket → (at_ticket l g t).value s ≡ (g (n % l.size)).value s
@@ -49,6 +62,14 @@ ticket_value l z g t s n e =
     let q : t.value s % 2 ^ (l.ticket - 1) ≡ n % l.size =
     ap (λ m. t.value s % m) (sym z.power) ∙ ap (λ m. m % l.size) (e ∙ ap (λ m. n % m) z.whole) ∙ half_mod l.size n in
     selected_value g t s (l.ticket - 1) 0 ∙ ap (λ k. (g k).value s) (let r : 0 + t.value s % 2 ^ (l.ticket - 1) ≡ n % l.size = omega (arith, q) in r)
+
+-- the address of a ticket's slot after a cycle's reservations
+pub addr_value : (l : RingLayout) → IsSized l → (f : StepSignals) (t : Signal) (s : State) (n : ℕ)
+    → t.value s ≡ n % 2 ^ l.ticket → (addr_of l f t).value s ≡ (slot_addr l f (n % l.size)).value s
+unfolding const_value
+addr_value l z f t s n e =
+    let g = λ (k : ℕ). reg_signal l.bits (addr_at l k) in
+    reserved_as l f s (at_ticket l g t) (g (n % l.size)) (slot_of l t) (number_at l (n % l.size)) (ticket_value l z g t s n e) (slot_value l z t s n e)
 
 head_number : (t u : Bool) (w b : ℕ)
     → (if u then words.add w (words.add w (b % 2 ^ w) 1) 1 else if t then words.add w (b % 2 ^ w) 1 else b % 2 ^ w)
@@ -145,14 +166,14 @@ module _ (l : RingLayout) (v : ℕ → Signal) (s : State) (x : LockState) (f : 
   pub oldest_addr_is : Cycle l v s x f a → a.release ≡ true → (oldest_addr l f).value s ≡ (entry_at (filled_entries x a) 0).addr
   oldest_addr_is c o =
       let h = all_filled l v s x f a c in
-      ticket_value l c.sized (slot_addr l f) (head_signal l) s x.base (head_value c)
+      addr_value l c.sized f (head_signal l) s x.base (head_value c)
       ∙ ap (λ k. (slot_addr l f k).value s) slot_zero ∙ h.has_addr 0 (there_first xs (c.proper.done o))
 
   -- where a second write is released, the net of the next address has that of the second oldest pending write
   pub next_addr_is : Cycle l v s x f a → a.release2 ≡ true → (next_addr l f).value s ≡ (entry_at (filled_entries x a) 1).addr
   next_addr_is c o =
       let h = all_filled l v s x f a c in
-      ticket_value l c.sized (slot_addr l f) (next_head l) s (x.base + 1) (next_head_value c) ∙ h.has_addr 1 (there_second xs (c.proper.done2 o))
+      addr_value l c.sized f (next_head l) s (x.base + 1) (next_head_value c) ∙ h.has_addr 1 (there_second xs (c.proper.done2 o))
 
   -- where a write is released, the value that is found at the head is that of the oldest pending write
   pub oldest_value_is : Cycle l v s x f a → a.release ≡ true
@@ -301,9 +322,12 @@ module _ (b : Circuit) (l : RingLayout) (f : StepSignals) (keeps : l.content ≡
 
   -- what a ticket's slot holds is its value after the writes
   same_at : (s : State) (u : Signal) (m : ℕ) → u.value s ≡ m % 2 ^ l.ticket
-      → (at_ticket l (slot_value l f) u).value s ≡ (at_ticket l (after_fill l f V) u).value s
+      → (content_of l f u).value s ≡ (at_ticket l (after_fill l f V) u).value s
+  unfolding const_value
   same_at s u m e =
-      ticket_value l z (slot_value l f) u s m e ∙ ap (λ (g : Signal). g.value s) (content_value l f (m % l.size) keeps)
+      ap (λ (g : Signal). g.value s) (content_value l f (at_ticket l V u) (slot_of l u) keeps)
+      ∙ filled_as l f s (at_ticket l V u) (V (m % l.size)) (slot_of l u) (number_at l (m % l.size)) (length f.writes)
+      (ticket_value l z V u s m e) (slot_value l z u s m e)
       ∙ sym (ticket_value l z (after_fill l f V) u s m e)
 
   oldest_same : (s : State) (x : LockState) (a : LockAct) → Cycle l V s x f a → a.release ≡ true
@@ -325,7 +349,7 @@ module _ (b : Circuit) (l : RingLayout) (f : StepSignals) (keeps : l.content ≡
                   let k = (next_base x a + i) % l.size in
                   let below : k < l.size = mod_below (next_base x a + i) l.size z.some in
                   o.regs (value_at l k) (omega arith) (omega (arith, below))
-                  ∙ ap (λ (g : Signal). g.value s) (n.contents.value k below ∙ content_value l f k keeps);
+                  ∙ ap (λ (g : Signal). g.value s) (n.contents.value k below ∙ content_value l f (content_signal l k) (number_at l k) keeps);
             });
         words =
             words_next l.array s u b l f.release (oldest_addr l f) (oldest_value l f) f.release2 (next_addr l f)

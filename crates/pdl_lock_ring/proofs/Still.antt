@@ -2,6 +2,7 @@
 use Rattle.std.proofs.Common.{◌≡◌, ◌≢◌, ℕ, zero, suc, ◌+◌, ◌%◌, ◌<◌, ◌≤◌, List, [], ◌∷◌, length, refl, sym, ap, ◌∙◌, subst, arith, ⊎_elim}
 use Rattle.std.specs.Prelude.{true, false, slice_index, slice_index_or}
 use Rattle.std.proofs.lemmas.Bool.{cases_Bool}
+use Rattle.pdl_word.specs.Words as words
 use Rattle.pdl_net.specs.Circuit.{Circuit, State}
 use Rattle.pdl_net.specs.Signal.{Signal, reg_value, const_value, bin_value, mux_value}
 use Rattle.pdl_lockapi.specs.declared.LockRegs.{LockRegs}
@@ -11,7 +12,7 @@ use Rattle.pdl_lockapi.specs.SlotLaws.{slot_regs, IsSpared, StillLaw}
 use Rattle.pdl_lock_ring.specs.declared.layout.RingLayout.{RingLayout}
 use Rattle.pdl_lock_ring.specs.declared.layout.Content.TheVariants.{Value}
 use Rattle.pdl_lock_ring.specs.Slots.{IsSized, Stands, content_signal, reg_of, addr_at, has_at, value_at, slot_numbers, slots_of}
-use Rattle.pdl_lock_ring.specs.Steps.{first_addr, second_addr, first_slot, second_slot, takes_first, takes_second, fills_slot, filled_bit, filled_value, slot_addr, slot_bit, NextValues, own_all}
+use Rattle.pdl_lock_ring.specs.Steps.{first_addr, second_addr, first_slot, second_slot, takes_first, takes_second, fills_slot, filled_bit, filled_value, number_at, reserved_addr, slot_addr, slot_bit, NextValues, own_all}
 use Rattle.pdl_lock_ring.proofs.RingValues.{mux_zero, eq_none, AreGiven}
 use Rattle.pdl_lock_ring.proofs.Fills.{content_value}
 use Rattle.pdl_lock_ring.proofs.FilledSlots.{TicketsFit, Cycle, are_given, fills_one, fills_none}
@@ -47,7 +48,7 @@ module _ (l : RingLayout) (v : ℕ → Signal) (s : State) (x : LockState) (f : 
 
   -- a spared slot keeps its address
   pub addr_still : (slot_addr l f k).value s ≡ reg_of s (addr_at l k)
-  unfolding slot_addr mux_value reg_value
+  unfolding reserved_addr mux_value reg_value
   addr_still = mux_zero ((takes_second l f k).value s) _ _ untaken.1 ∙ mux_zero ((takes_first l f k).value s) _ _ untaken.0
 
   bit_still_at : (j : ℕ) → j ≤ length a.writes → (filled_bit l f k j).value s ≡ reg_of s (has_at l k)
@@ -59,13 +60,13 @@ module _ (l : RingLayout) (v : ℕ → Signal) (s : State) (x : LockState) (f : 
   pub bit_still : (slot_bit l f k).value s ≡ reg_of s (has_at l k)
   bit_still = bit_still_at (length f.writes) (let e = c.drives.count in omega (arith, e))
 
-  value_still_at : (g : Signal) (j : ℕ) → j ≤ length a.writes → (filled_value l f g k j).value s ≡ g.value s
+  value_still_at : (g : Signal) (j : ℕ) → j ≤ length a.writes → (filled_value l f g (number_at l k) j).value s ≡ g.value s
   unfolding filled_value mux_value
   value_still_at g zero h = refl
   value_still_at g (suc j) h = mux_zero ((fills_slot l f k j).value s) _ _ (unfilled j (omega arith)) ∙ value_still_at g j (omega arith)
 
   -- a spared slot keeps its value, whatever signal has it
-  pub value_still : (g : Signal) → (filled_value l f g k (length f.writes)).value s ≡ g.value s
+  pub value_still : (g : Signal) → (filled_value l f g (number_at l k) (length f.writes)).value s ≡ g.value s
   value_still g = value_still_at g (length f.writes) (let e = c.drives.count in omega (arith, e))
 
 -- what is so of each register of a slot that keeps its value
@@ -97,7 +98,7 @@ still_law b l f r e listed z t n = record {
       (o.regs (addr_at l k) (omega arith) (omega (arith, below)) ∙ ap (λ (g : Signal). g.value s) (n.addrs.addr k below)
       ∙ addr_still l V s x f a c k below spared)
       (o.regs (value_at l k) (omega arith) (omega (arith, below))
-      ∙ ap (λ (g : Signal). g.value s) (n.contents.value k below ∙ content_value l f k e)
+      ∙ ap (λ (g : Signal). g.value s) (n.contents.value k below ∙ content_value l f (content_signal l k) (number_at l k) e)
       ∙ value_still l V s x f a c k below spared (V k))
       (o.regs (has_at l k) (omega arith) (omega (arith, below)) ∙ ap (λ (g : Signal). g.value s) (n.bits.bit k below) ∙ bit_still l V s x f a c k below spared)
       j lt) within;

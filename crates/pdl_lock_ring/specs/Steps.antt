@@ -57,13 +57,17 @@ first_slot l f = mux_signal (pushes f) (slot_of l (tail_signal l)) (const_signal
 unfoldable pub second_slot : RingLayout → StepSignals → Signal
 second_slot l f = mux_signal (pushes2 f) (slot_of l (second_ticket l)) (const_signal l.ticket l.size)
 
+-- the number of slot k
+abbrev pub number_at : RingLayout → ℕ → Signal
+number_at l k = const_signal l.ticket k
+
 -- slot k is given to the first, to the second
 abbrev pub takes_first : RingLayout → StepSignals → ℕ → Signal
-takes_first l f k = bin_signal Eq (first_slot l f) (const_signal l.ticket k)
+takes_first l f k = bin_signal Eq (first_slot l f) (number_at l k)
 
 -- slot k is given to a cycle's second reservation
 abbrev pub takes_second : RingLayout → StepSignals → ℕ → Signal
-takes_second l f k = bin_signal Eq (second_slot l f) (const_signal l.ticket k)
+takes_second l f k = bin_signal Eq (second_slot l f) (number_at l k)
 
 -- the slot into which write port j writes; where it is off, a number that no slot has
 abbrev pub written_slot : RingLayout → StepSignals → ℕ → Signal
@@ -71,34 +75,40 @@ written_slot l f j = mux_signal (ticket_at f.writes j).enable (slot_of l (ticket
 
 -- write port j writes into slot k
 abbrev pub fills_slot : RingLayout → StepSignals → ℕ → ℕ → Signal
-fills_slot l f k j = bin_signal Eq (written_slot l f j) (const_signal l.ticket k)
+fills_slot l f k j = bin_signal Eq (written_slot l f j) (number_at l k)
+
+-- the address of the slot of this number after the reservations, from what it was before
+unfoldable pub reserved_addr : RingLayout → StepSignals → Signal → Signal → Signal
+reserved_addr l f addr slot =
+    mux_signal (bin_signal Eq (second_slot l f) slot) (second_addr l f) (mux_signal (bin_signal Eq (first_slot l f) slot) (first_addr l f) addr)
 
 -- slot k's address after the reservations
-unfoldable pub slot_addr : RingLayout → StepSignals → ℕ → Signal
-slot_addr l f k = mux_signal (takes_second l f k) (second_addr l f) (mux_signal (takes_first l f k) (first_addr l f) (reg_signal l.bits (addr_at l k)))
+abbrev pub slot_addr : RingLayout → StepSignals → ℕ → Signal
+slot_addr l f k = reserved_addr l f (reg_signal l.bits (addr_at l k)) (number_at l k)
 
 -- slot k's value bit after the reservations and the first j write ports
 unfoldable pub filled_bit : RingLayout → StepSignals → ℕ → ℕ → Signal
 filled_bit l f k zero = mux_signal (takes_second l f k) (const_signal 1 0) (mux_signal (takes_first l f k) (const_signal 1 0) (reg_signal 1 (has_at l k)))
 filled_bit l f k (suc j) = mux_signal (fills_slot l f k j) (const_signal 1 1) (filled_bit l f k j)
 
--- slot k's value from this one on, after the first j write ports
-unfoldable pub filled_value : RingLayout → StepSignals → Signal → ℕ → ℕ → Signal
-filled_value l f value k zero = value
-filled_value l f value k (suc j) = mux_signal (fills_slot l f k j) (ticket_at f.writes j).value (filled_value l f value k j)
+-- the value of the slot of this number after the first j write ports, from what it was before
+unfoldable pub filled_value : RingLayout → StepSignals → Signal → Signal → ℕ → Signal
+filled_value l f value slot zero = value
+filled_value l f value slot (suc j) =
+    mux_signal (bin_signal Eq (written_slot l f j) slot) (ticket_at f.writes j).value (filled_value l f value slot j)
 
 -- slot k's value bit after the reservations and all write ports
 abbrev pub slot_bit : RingLayout → StepSignals → ℕ → Signal
 slot_bit l f k = filled_bit l f k (length f.writes)
 
--- slot k's content after the write ports, which change a value but no place
-abbrev pub content_after : Content → RingLayout → StepSignals → ℕ → Signal
-content_after Value l f k = filled_value l f (content_signal l k) k (length f.writes)
-content_after Place l f k = content_signal l k
+-- the content of the slot of this number after the write ports, which change a value but no place
+abbrev pub content_after : Content → RingLayout → StepSignals → Signal → Signal → Signal
+content_after Value l f content slot = filled_value l f content slot (length f.writes)
+content_after Place l f content slot = content
 
 -- what slot k keeps after all write ports: its value, or its place, which no write changes
 abbrev pub slot_value : RingLayout → StepSignals → ℕ → Signal
-slot_value l f k = content_after l.content l f k
+slot_value l f k = content_after l.content l f (content_signal l k) (number_at l k)
 
 -- the ticket after the oldest one
 abbrev pub next_head : RingLayout → Signal
@@ -118,21 +128,29 @@ tail_after l f =
 abbrev pub at_ticket : RingLayout → (ℕ → Signal) → Signal → Signal
 at_ticket l g t = selected_signal g t (l.ticket - 1) 0
 
--- the addresses and the contents of the oldest pending write and of the one after it, after this cycle's reservations and writes
+-- the address of a ticket's slot after this cycle's reservations
+abbrev pub addr_of : RingLayout → StepSignals → Signal → Signal
+addr_of l f t = reserved_addr l f (at_ticket l (λ k. reg_signal l.bits (addr_at l k)) t) (slot_of l t)
+
+-- the content of a ticket's slot after this cycle's writes
+abbrev pub content_of : RingLayout → StepSignals → Signal → Signal
+content_of l f t = content_after l.content l f (at_ticket l (content_signal l) t) (slot_of l t)
+
+-- the address of the oldest pending write after this cycle's reservations and writes
 abbrev pub oldest_addr : RingLayout → StepSignals → Signal
-oldest_addr l f = at_ticket l (slot_addr l f) (head_signal l)
+oldest_addr l f = addr_of l f (head_signal l)
 
 -- the content of the oldest pending write after this cycle's reservations and writes
 abbrev pub oldest_value : RingLayout → StepSignals → Signal
-oldest_value l f = at_ticket l (slot_value l f) (head_signal l)
+oldest_value l f = content_of l f (head_signal l)
 
 -- the address of the pending write after the oldest one, after this cycle's reservations and writes
 abbrev pub next_addr : RingLayout → StepSignals → Signal
-next_addr l f = at_ticket l (slot_addr l f) (next_head l)
+next_addr l f = addr_of l f (next_head l)
 
 -- the content of the pending write after the oldest one, after this cycle's reservations and writes
 abbrev pub next_value : RingLayout → StepSignals → Signal
-next_value l f = at_ticket l (slot_value l f) (next_head l)
+next_value l f = content_of l f (next_head l)
 
 -- the addresses of the first n slots take what the cycle makes of them
 pub record NextAddrs (c : Circuit) (l : RingLayout) (f : StepSignals) (n : ℕ) : Type 0 where

@@ -1,12 +1,14 @@
 //! What reservations and writes put into a slot.
 ghost use Rattle.std.specs.Prelude.{◌≡◌, ℕ, ◌+◌, ◌-◌, ◌*◌, ◌^◌, ◌<◌, ◌≤◌, length, IfOk, slice_index_or};
-ghost use Rattle.pdl_net.specs.Signal.{const_signal, mux_signal};
+ghost use Rattle.pdl_net.specs.declared.BinOp.TheVariants.{Eq};
+ghost use Rattle.pdl_net.specs.Signal.{const_signal, bin_signal, mux_signal};
 ghost use Rattle.pdl_net.specs.Meaning.{Means, signal};
 ghost use Rattle.pdl_net.specs.HasWidth.{HasWidth};
 ghost use Rattle.pdl_net.specs.Growth.{Extends};
 ghost use Rattle.pdl_lockapi.specs.Laws.{step_signals, ticket_at};
+ghost use Rattle.pdl_lock_ring.specs.Slots.{IsSized};
 ghost use Rattle.pdl_lock_ring.specs.Ready.{HasPorts, IsReady};
-ghost use Rattle.pdl_lock_ring.specs.Steps.{takes_first, takes_second, written_slot, fills_slot, filled_bit, filled_value, slot_addr, slot_bit, slot_value};
+ghost use Rattle.pdl_lock_ring.specs.Steps.{first_slot, second_slot, number_at, reserved_addr, written_slot, fills_slot, filled_bit, filled_value, content_after, slot_addr, slot_bit, slot_value};
 
 use crate::layout::{Content, RingLayout};
 use crate::taken::{Taken, emit_gate};
@@ -23,31 +25,66 @@ pub fn write_port(p: &LockPorts, j: usize) -> TicketWrite
     p.writes.as_slice()[j]
 }
 
-/// Whether slot k is given to the first reservation, and whether to the second one.
+/// Whether the slot of this number is given to the first reservation, and whether to the second one.
 #[tactic(auto, using(crate::proofs::RingGrowth::ready_kept))]
 fn emit_takes(
     b: &mut Builder,
     l: RingLayout,
     p: &LockPorts,
     t: Taken,
-    k: usize,
+    slot: Net,
 ) -> Result<(Net, Net), NoMemory>
     requires ready { IsReady b.old l p.now t }
-    requires slot_in { k < l.size }
-    ensures first { IfOk result (λ x.
-        Means b.new x.0 (takes_first l (step_signals b.old p.now) k)) }
-    ensures second { IfOk result (λ x.
-        Means b.new x.1 (takes_second l (step_signals b.old p.now) k)) }
+    requires slot { HasWidth b.old slot l.ticket }
+    ensures first { IfOk result (λ x. Means b.new x.0
+        (bin_signal Eq (first_slot l (step_signals b.old p.now)) (signal b.old slot))) }
+    ensures second { IfOk result (λ x. Means b.new x.1
+        (bin_signal Eq (second_slot l (step_signals b.old p.now)) (signal b.old slot))) }
     ensures extends { Extends b.old b.new }
 {
-    let place = b.constant(l.ticket, k as u64)?;
-    let first = b.bin(BinOp::Eq, t.first_slot, place)?;
-    let second = b.bin(BinOp::Eq, t.second_slot, place)?;
+    let first = b.bin(BinOp::Eq, t.first_slot, slot)?;
+    let second = b.bin(BinOp::Eq, t.second_slot, slot)?;
     Ok((first, second))
 }
 
+/// The address of the slot of this number after the reservations, from what it was before.
+#[tactic(auto, using(crate::proofs::Fills::reserved_addr_is, crate::proofs::RingGrowth::ready_kept))]
+pub fn emit_reserved(
+    b: &mut Builder,
+    l: RingLayout,
+    p: &LockPorts,
+    t: Taken,
+    addr: Net,
+    slot: Net,
+) -> Result<Net, NoMemory>
+    requires ready { IsReady b.old l p.now t }
+    requires addr { HasWidth b.old addr l.bits }
+    requires slot { HasWidth b.old slot l.ticket }
+    ensures means { IfOk result (λ x.
+        Means b.new x (reserved_addr l (step_signals b.old p.now) (signal b.old addr)
+        (signal b.old slot))) }
+    ensures wide { IfOk result (λ x. (signal b.new x).width ≡ l.bits) }
+    ensures extends { Extends b.old b.new }
+{
+    let (first, second) = emit_takes(b, l, p, t, slot)?;
+    let kept = b.mux(first, t.first, addr)?;
+    let addr = b.mux(second, t.second, kept)?;
+    Ok(addr)
+}
+
+/// The number of slot k.
+#[tactic(auto)]
+fn emit_number(b: &mut Builder, l: RingLayout, k: usize) -> Result<Net, NoMemory>
+    requires sized { IsSized l }
+    requires slot_in { k < l.size }
+    ensures means { IfOk result (λ x. Means b.new x (number_at l k)) }
+    ensures extends { Extends b.old b.new }
+{
+    b.constant(l.ticket, k as u64)
+}
+
 /// Slot k's address after the reservations.
-#[tactic(auto, using(crate::proofs::Fills::slot_addr_is, crate::proofs::RingGrowth::ready_kept))]
+#[tactic(auto, using(crate::proofs::RingGrowth::ready_kept))]
 pub fn emit_addr(
     b: &mut Builder,
     l: RingLayout,
@@ -61,9 +98,8 @@ pub fn emit_addr(
     ensures wide { IfOk result (λ x. (signal b.new x).width ≡ l.bits) }
     ensures extends { Extends b.old b.new }
 {
-    let (first, second) = emit_takes(b, l, p, t, k)?;
-    let kept = b.mux(first, t.first, Net::Reg(l.from + 2 + k))?;
-    let addr = b.mux(second, t.second, kept)?;
+    let slot = emit_number(b, l, k)?;
+    let addr = emit_reserved(b, l, p, t, Net::Reg(l.from + 2 + k), slot)?;
     Ok(addr)
 }
 
@@ -81,7 +117,8 @@ fn emit_emptied(
     ensures means { IfOk result (λ x. Means b.new x (filled_bit l (step_signals b.old p.now) k 0)) }
     ensures extends { Extends b.old b.new }
 {
-    let (first, second) = emit_takes(b, l, p, t, k)?;
+    let slot = emit_number(b, l, k)?;
+    let (first, second) = emit_takes(b, l, p, t, slot)?;
     let zero = b.constant(1, 0)?;
     let kept = b.mux(first, zero, Net::Reg(l.from + 2 + l.size + k))?;
     let bit = b.mux(second, zero, kept)?;
@@ -122,8 +159,8 @@ fn emit_match(
     ensures extends { Extends b.old b.new }
 {
     let written = emit_written(b, l, p, j)?;
-    let place = b.constant(l.ticket, k as u64)?;
-    b.bin(BinOp::Eq, written, place)
+    let slot = emit_number(b, l, k)?;
+    b.bin(BinOp::Eq, written, slot)
 }
 
 /// Slot k's value bit after the reservations and all write ports.
@@ -149,58 +186,84 @@ pub fn emit_bit(
     Ok(bit)
 }
 
-/// Slot k's value after write port j.
+/// The value of the slot of this number after write port j.
 #[tactic(auto, using(crate::proofs::Fills::ticket_is, crate::proofs::RingGrowth::ports_kept))]
 fn emit_put(
     b: &mut Builder,
     l: RingLayout,
     p: &LockPorts,
-    k: usize,
     j: usize,
     value: Net,
+    slot: Net,
 ) -> Result<Net, NoMemory>
     requires given { HasPorts b.old l p.now }
-    requires slot_in { k < l.size }
     requires within { j < length p.now.writes }
     requires value { HasWidth b.old value l.width }
-    ensures value { IfOk result (λ x.
-        Means b.new x (mux_signal (fills_slot l (step_signals b.old p.now) k j)
+    requires slot { HasWidth b.old slot l.ticket }
+    ensures value { IfOk result (λ x. Means b.new x
+        (mux_signal (bin_signal Eq (written_slot l (step_signals b.old p.now) j) (signal b.old slot))
         (ticket_at (step_signals b.old p.now).writes j).value (signal b.old value))) }
     ensures value_wide { IfOk result (λ x. (signal b.new x).width ≡ l.width) }
     ensures extends { Extends b.old b.new }
 {
     let port = write_port(p, j);
-    let fills = emit_match(b, l, p, k, j)?;
-    b.mux(fills, port.value, value)
+    let written = emit_written(b, l, p, j)?;
+    let fills = b.bin(BinOp::Eq, written, slot)?;
+    let put = b.mux(fills, port.value, value)?;
+    Ok(put)
 }
 
-/// Slot k's value after all write ports, from this one on.
+/// The value of the slot of this number after all write ports, from what it was before.
 #[tactic(auto, using(crate::proofs::Fills::filling, crate::proofs::RingGrowth::ports_kept))]
-fn emit_value(
+pub fn emit_value(
     b: &mut Builder,
     l: RingLayout,
     p: &LockPorts,
-    k: usize,
     before: Net,
+    slot: Net,
 ) -> Result<Net, NoMemory>
     requires given { HasPorts b.old l p.now }
-    requires slot_in { k < l.size }
     requires before { HasWidth b.old before l.width }
+    requires slot { HasWidth b.old slot l.ticket }
     ensures value { IfOk result (λ x.
-        Means b.new x (filled_value l (step_signals b.old p.now) (signal b.old before) k
-        (length p.now.writes))) }
+        Means b.new x (filled_value l (step_signals b.old p.now) (signal b.old before)
+        (signal b.old slot) (length p.now.writes))) }
     ensures value_wide { IfOk result (λ x. (signal b.new x).width ≡ l.width) }
     ensures extends { Extends b.old b.new }
 {
     let mut value = before;
     for j in 0..p.writes.len() {
-        value = emit_put(b, l, p, k, j, value)?;
+        value = emit_put(b, l, p, j, value, slot)?;
     }
     Ok(value)
 }
 
-/// What slot k holds after all write ports, a value or a place.
+/// What the slot of this number holds after all write ports, a value or a place.
 #[tactic(auto, using(crate::proofs::Fills::contents))]
+pub fn emit_filled(
+    b: &mut Builder,
+    l: RingLayout,
+    p: &LockPorts,
+    content: Net,
+    slot: Net,
+) -> Result<Net, NoMemory>
+    requires given { HasPorts b.old l p.now }
+    requires content { HasWidth b.old content l.kept }
+    requires slot { HasWidth b.old slot l.ticket }
+    ensures content { IfOk result (λ x.
+        Means b.new x (content_after l.content l (step_signals b.old p.now)
+        (signal b.old content) (signal b.old slot))) }
+    ensures content_wide { IfOk result (λ x. (signal b.new x).width ≡ l.kept) }
+    ensures extends { Extends b.old b.new }
+{
+    match l.content {
+        Content::Value => emit_value(b, l, p, content, slot),
+        Content::Place => Ok(content),
+    }
+}
+
+/// What slot k holds after all write ports.
+#[tactic(auto, using(crate::proofs::RingGrowth::ports_kept))]
 pub fn emit_content(
     b: &mut Builder,
     l: RingLayout,
@@ -213,9 +276,7 @@ pub fn emit_content(
     ensures content_wide { IfOk result (λ x. (signal b.new x).width ≡ l.kept) }
     ensures extends { Extends b.old b.new }
 {
-    let kept = Net::Reg(l.from + 2 + 2 * l.size + k);
-    match l.content {
-        Content::Value => emit_value(b, l, p, k, kept),
-        Content::Place => Ok(kept),
-    }
+    let slot = emit_number(b, l, k)?;
+    let content = emit_filled(b, l, p, Net::Reg(l.from + 2 + 2 * l.size + k), slot)?;
+    Ok(content)
 }

@@ -1,17 +1,18 @@
 //! What the slots take next, and the slot of a ticket after a cycle's reservations and writes.
 ghost use Rattle.std.specs.Prelude.{◌≡◌, ℕ, ◌+◌, ◌-◌, ◌*◌, ◌^◌, ◌<◌, ◌≤◌, length, IfOk, OnOk};
-ghost use Rattle.pdl_net.specs.Meaning.{IsThere, Means, signal, next_signal};
+ghost use Rattle.pdl_net.specs.Meaning.{Means, signal, next_signal};
 ghost use Rattle.pdl_net.specs.HasWidth.{HasWidth};
 ghost use Rattle.pdl_net.specs.Growth.{Extends, ExtendsBut};
 ghost use Rattle.pdl_lockapi.specs.Laws.{step_signals};
-ghost use Rattle.pdl_lock_ring.specs.Slots.{addr_at, has_at, value_at};
-ghost use Rattle.pdl_lock_ring.specs.Choices.{selected_signal};
+ghost use Rattle.pdl_lock_ring.specs.Registers.{row_of};
+ghost use Rattle.pdl_lock_ring.specs.Slots.{IsSized, addr_at, has_at, value_at};
 ghost use Rattle.pdl_lock_ring.specs.Ready.{HasPorts, IsReady};
-ghost use Rattle.pdl_lock_ring.specs.Steps.{slot_addr, slot_bit, slot_value, at_ticket, NextAddrs, NextBits, NextContents, own_reg, own_addrs, own_bits, own_contents, own_slots};
+ghost use Rattle.pdl_lock_ring.specs.Steps.{slot_addr, slot_bit, slot_value, addr_of, content_of, NextAddrs, NextBits, NextContents, own_reg, own_addrs, own_bits, own_contents, own_slots};
 
-use crate::choice::power;
-use crate::fill::{emit_addr, emit_bit, emit_content};
+use crate::choice::{Registers, emit_register};
+use crate::fill::{emit_addr, emit_bit, emit_content, emit_filled, emit_reserved};
 use crate::layout::RingLayout;
+use crate::look::emit_slot_of;
 use crate::taken::Taken;
 use pdl_build::Builder;
 use pdl_kit::NoMemory;
@@ -25,71 +26,77 @@ pub struct Slot {
     pub content: Net,
 }
 
-/// Address and content of slot k after the reservations and writes.
-#[tactic(auto, using(crate::proofs::RingGrowth::ready_kept))]
-fn emit_slot(
-    b: &mut Builder,
-    l: RingLayout,
-    p: &LockPorts,
-    t: Taken,
-    k: usize,
-) -> Result<Slot, NoMemory>
-    requires ready { IsReady b.old l p.now t }
-    requires slot_in { k < l.size }
-    ensures addr { IfOk result (λ s.
-        Means b.new s.addr (slot_addr l (step_signals b.old p.now) k)) }
-    ensures content { IfOk result (λ s.
-        Means b.new s.content (slot_value l (step_signals b.old p.now) k)) }
-    ensures addr_wide { IfOk result (λ s. (signal b.new s.addr).width ≡ l.bits) }
-    ensures content_wide { IfOk result (λ s. (signal b.new s.content).width ≡ l.kept) }
-    ensures extends { Extends b.old b.new }
+/// The registers of the slots' addresses.
+fn addr_registers(l: RingLayout) -> Registers
+    requires { IsSized l }
+    ensures { result ≡ row_of l (l.from + 2) l.bits }
 {
-    let addr = emit_addr(b, l, p, t, k)?;
-    let content = emit_content(b, l, p, k)?;
-    Ok(Slot { addr, content })
+    Registers {
+        first: l.from + 2,
+        count: l.size,
+        width: l.bits,
+    }
 }
 
-/// Of the `2 ^ bits` slots from `from` on, after the reservations and writes, that of the number in the lowest bits of `number`.
-#[tactic(auto, using(crate::proofs::Trees::selecting, crate::proofs::RingGrowth::ready_kept))]
-fn emit_picked(
+/// The registers of what the slots hold.
+fn content_registers(l: RingLayout) -> Registers
+    requires { IsSized l }
+    ensures { result ≡ row_of l (l.from + 2 + 2 * l.size) l.kept }
+{
+    Registers {
+        first: l.from + 2 + 2 * l.size,
+        count: l.size,
+        width: l.kept,
+    }
+}
+
+/// The address of a ticket's slot after the reservations.
+#[tactic(auto, using(crate::proofs::RingGrowth::ready_kept))]
+fn emit_addr_of(
     b: &mut Builder,
     l: RingLayout,
     p: &LockPorts,
     t: Taken,
-    number: Net,
-    bits: u8,
-    from: usize,
-) -> Result<Slot, NoMemory>
+    ticket: Net,
+) -> Result<Net, NoMemory>
     requires ready { IsReady b.old l p.now t }
-    requires number_there { IsThere b.old number }
-    requires number_width { bits ≤ (signal b.old number).width }
-    requires bits { bits ≤ 16 }
-    requires within { from + 2 ^ bits ≤ l.size }
-    ensures addr { IfOk result (λ s.
-        Means b.new s.addr (selected_signal (slot_addr l (step_signals b.old p.now))
-        (signal b.old number) bits from)) }
-    ensures content { IfOk result (λ s.
-        Means b.new s.content (selected_signal (slot_value l (step_signals b.old p.now))
-        (signal b.old number) bits from)) }
-    ensures addr_wide { IfOk result (λ s. (signal b.new s.addr).width ≡ l.bits) }
-    ensures content_wide { IfOk result (λ s. (signal b.new s.content).width ≡ l.kept) }
+    requires ticket { HasWidth b.old ticket l.ticket }
+    ensures means { IfOk result (λ x.
+        Means b.new x (addr_of l (step_signals b.old p.now) (signal b.old ticket))) }
+    ensures wide { IfOk result (λ x. (signal b.new x).width ≡ l.bits) }
     ensures extends { Extends b.old b.new }
 {
-    if bits == 0 {
-        return emit_slot(b, l, p, t, from);
-    }
-    let top = bits - 1;
-    let half = power(top);
-    let low = emit_picked(b, l, p, t, number, top, from)?;
-    let high = emit_picked(b, l, p, t, number, top, from + half)?;
-    let bit = b.slice(number, top, top)?;
-    let addr = b.mux(bit, high.addr, low.addr)?;
-    let content = b.mux(bit, high.content, low.content)?;
-    Ok(Slot { addr, content })
+    let addrs = addr_registers(l);
+    let addr = emit_register(b, addrs, ticket, l.ticket - 1, 0)?;
+    let slot = emit_slot_of(b, l, ticket)?;
+    let reserved = emit_reserved(b, l, p, t, addr, slot)?;
+    Ok(reserved)
+}
+
+/// The content of a ticket's slot after the writes.
+#[tactic(auto, using(crate::proofs::RingGrowth::ports_kept))]
+fn emit_content_of(
+    b: &mut Builder,
+    l: RingLayout,
+    p: &LockPorts,
+    ticket: Net,
+) -> Result<Net, NoMemory>
+    requires given { HasPorts b.old l p.now }
+    requires ticket { HasWidth b.old ticket l.ticket }
+    ensures means { IfOk result (λ x.
+        Means b.new x (content_of l (step_signals b.old p.now) (signal b.old ticket))) }
+    ensures wide { IfOk result (λ x. (signal b.new x).width ≡ l.kept) }
+    ensures extends { Extends b.old b.new }
+{
+    let contents = content_registers(l);
+    let content = emit_register(b, contents, ticket, l.ticket - 1, 0)?;
+    let slot = emit_slot_of(b, l, ticket)?;
+    let filled = emit_filled(b, l, p, content, slot)?;
+    Ok(filled)
 }
 
 /// The slot of a ticket after the reservations and writes.
-#[tactic(auto)]
+#[tactic(auto, using(crate::proofs::RingGrowth::ready_kept))]
 pub fn emit_at(
     b: &mut Builder,
     l: RingLayout,
@@ -100,16 +107,16 @@ pub fn emit_at(
     requires ready { IsReady b.old l p.now t }
     requires ticket { HasWidth b.old ticket l.ticket }
     ensures addr { IfOk result (λ s.
-        Means b.new s.addr (at_ticket l (slot_addr l (step_signals b.old p.now))
-        (signal b.old ticket))) }
+        Means b.new s.addr (addr_of l (step_signals b.old p.now) (signal b.old ticket))) }
     ensures content { IfOk result (λ s.
-        Means b.new s.content (at_ticket l (slot_value l (step_signals b.old p.now))
-        (signal b.old ticket))) }
+        Means b.new s.content (content_of l (step_signals b.old p.now) (signal b.old ticket))) }
     ensures addr_wide { IfOk result (λ s. (signal b.new s.addr).width ≡ l.bits) }
     ensures content_wide { IfOk result (λ s. (signal b.new s.content).width ≡ l.kept) }
     ensures extends { Extends b.old b.new }
 {
-    emit_picked(b, l, p, t, ticket, l.ticket - 1, 0)
+    let addr = emit_addr_of(b, l, p, t, ticket)?;
+    let content = emit_content_of(b, l, p, ticket)?;
+    Ok(Slot { addr, content })
 }
 
 /// What slot k's address takes next.

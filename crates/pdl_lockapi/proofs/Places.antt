@@ -1,7 +1,7 @@
 -- The places of a thread's pending writes in joined lists.
 use Rattle.std.proofs.Common.{◌≡◌, refl, sym, ap, ◌∙◌, ℕ, suc, ◌+◌, ◌<◌, ◌≤◌, Bool, true, false, ◌&&◌, List, [], ◌∷◌, ◌++◌, length, ◌==◌, cond, arith, le-ltb, lt-ltb, ⊎_elim}
 use Rattle.std.proofs.lemmas.Bool.{cases_lt, ne_eqb}
-use Rattle.pdl_word.proofs.Bools.{by_bool}
+use Rattle.pdl_semantics.proofs.Bools.{by_bool}
 use Rattle.pdl_semantics.specs.Machine.{Pending}
 use Rattle.pdl_semantics.specs.PendingLists.{count_older}
 use Rattle.pdl_semantics.specs.Sound.{entries_by}

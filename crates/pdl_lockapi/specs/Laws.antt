@@ -1,6 +1,6 @@
 -- What the calls of a lock module ensure.
 use Rattle.std.specs.Prelude.{◌≡◌, ◌≢◌, ℕ, ◌+◌, ◌%◌, ◌^◌, ◌<◌, ◌≤◌, List, [], ◌∷◌, length, map, slice_index, slice_index_or, slice_set, ◌==◌, if◌then◌else◌, true, Option, Some, None}
-use Rattle.pdl_word.specs.Words.{bit}
+use Rattle.pdl_semantics.specs.Words.{bit}
 use Rattle.pdl_kit.specs.declared.mem_info.MemInfo.{MemInfo}
 use Rattle.pdl_semantics.specs.Tree.{LockKind, Queue, Bypass, Rename}
 use Rattle.pdl_net.specs.declared.Net.{Net}

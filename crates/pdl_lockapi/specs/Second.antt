@@ -1,6 +1,6 @@
 -- The laws of a cycle's second reservation, second release and second commit.
 use Rattle.std.specs.Prelude.{◌≡◌, ℕ, ◌+◌, ◌≤◌, Option, Some, true}
-use Rattle.pdl_word.specs.Words.{bit}
+use Rattle.pdl_semantics.specs.Words.{bit}
 use Rattle.pdl_semantics.specs.Tree.{LockKind}
 use Rattle.pdl_net.specs.Circuit.{Circuit, State}
 use Rattle.pdl_net.specs.Signal.{Signal}

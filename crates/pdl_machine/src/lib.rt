@@ -7,3 +7,4 @@ mod machine;
 mod replies;
 
 pub use machine::Machine;
+pub use pdl_check::Accepted;

@@ -4,3 +4,4 @@ pub mod Stagewise
 pub mod Requests
 pub mod PlainWords
 pub mod StatementUses
+pub use Rattle.pdl_theory_simulation.proofs.theory_turns

@@ -12,7 +12,7 @@ use Rattle.pdl_theory_facts.specs.Scans.{none_of, all_at}
 use Rattle.pdl_theory_facts.specs.GuessScans.{Making, Unmade, next_making, making_ok, makings_ok, is_guessed, stands_at, stands_before}
 use Rattle.pdl_theory_facts.specs.Graphs.{Trunk}
 use Rattle.pdl_theory_facts.specs.Facts.{Sound, looked_all, trunk_only}
-use Rattle.pdl_theory_turns.proofs.StrayPaths.{verify_looked}
+use Rattle.pdl_theory_simulation.proofs.theory_turns.StrayPaths.{verify_looked}
 use Rattle.pdl_machine_inflight.specs.InFlight.{Some-of, UpdatesTogether}
 use Rattle.pdl_machine_inflight.proofs.DeedsIn.{has_check, fails_checked}
 

@@ -1,2 +1,4 @@
 pub mod Readings
 pub mod InFlight
+pub use Rattle.pdl_machine_facts.specs.Ports
+pub use Rattle.pdl_machine_facts.specs.Slots

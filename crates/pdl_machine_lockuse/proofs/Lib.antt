@@ -21,3 +21,4 @@ pub mod CarefulTest
 mod Examples
 pub mod Slotwise
 pub mod ReleaseOrder
+pub use Rattle.pdl_source_strict.proofs.Paths as StrictPaths

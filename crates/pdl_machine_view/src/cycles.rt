@@ -11,10 +11,9 @@ ghost use Rattle.pdl_machine_view.specs.Lines.{lines_from};
 ghost use Rattle.pdl_machine_view.specs.Viewed.{view_text};
 
 use crate::lines::push_line;
-use pdl_check::Accepted;
 use pdl_image::{Delays, Image};
 use pdl_kit::sink::{Sink, WriteFailed};
-use pdl_machine::Machine;
+use pdl_machine::{Accepted, Machine};
 use pdl_trace::{LineOut, TextError};
 use std::alloc::Global;
 

@@ -17,6 +17,11 @@ lifted : {E : Type 0} (P Q : Netlist → Type 0) (r : Result Netlist E) → ((p 
 lifted P Q (Ok p) f h = f p h
 lifted P Q (Err e) f h = tt
 
+-- what holds of a choice holds of an answer that is this choice
+pub all_as : {E : Type 0} (P : Choice → Type 0) (k : Choice) (r : Result Choice E) → P k → IfOk r (λ x. x ≡ k) → IfOk r P
+all_as P k (Ok x) h e = subst P (sym e) h
+all_as P k (Err y) h e = tt
+
 -- an answer that is pruned by a choice of what is needed has the needed registers and cells alone
 pub all_pruned : {E : Type 0} (n : Netlist) (k : Choice) (r : Result Netlist E) → KeepsNeeded (circuit_of n) k
     → IfOk r (λ p. p ≡ pruned k n) → IfOk r (IsPruned n)

@@ -1,6 +1,6 @@
 -- A pruned netlist shows the same.
 use Rattle.std.proofs.Common.{◌≡◌, ℕ, zero, suc, ◌<◌, ◌+◌, Bool, true, false, List, [], ◌∷◌, ◌++◌, length, map, filter_map, drop, get_or, Some, refl, ap, ◌∙◌, arith, cond, bytes_eq, codes}
-use Rattle.std.specs.Prelude.{slice_get, slice_set, slice_index_or, ◌==◌, if◌then◌else◌, ◌/◌}
+use Rattle.std.specs.Prelude.{slice_set, slice_index_or, ◌==◌, if◌then◌else◌, ◌/◌}
 use Rattle.std.specs.List.{position_from}
 use Rattle.pdl_word.specs.Each.{Each}
 use Rattle.pdl_kit.specs.declared.mem_info.MemInfo.{MemInfo}
@@ -61,7 +61,8 @@ stores_same k n ports (i ∷ mems) (m ∷ stores) bits =
 
 -- ---- values in one cycle
 
-abbrev IsSame : Choice → Netlist → State → State → Net → Type 0
+-- a net has one value in a netlist and, by its new number, in its pruned one
+abbrev pub IsSame : Choice → Netlist → State → State → Net → Type 0
 IsSame k n s s' x = net_value (after k n) s' (moved_net k x) ≡ net_value (circuit_of n) s x
 
 value_same : (k : Choice) (n : Netlist) → IsClosed (circuit_of n) k → IsWell (circuit_of n) → (s s' : State)
@@ -162,15 +163,16 @@ arrays_same k n h w s s' t = arrays_from_same k n s s' t.arrays n.arrays 0 (writ
 -- ---- cycle after cycle
 
 -- the same at the start of a cycle, but for the registers that aren't kept
-record IsSameHeld (k : Choice) (a b : Held) : Type 0 where
-  regs : b.regs ≡ kept_of k.regs a.regs
-  arrays : b.arrays ≡ a.arrays
-  stores : b.stores ≡ a.stores
+pub record IsSameHeld (k : Choice) (a b : Held) : Type 0 where
+  pub regs : b.regs ≡ kept_of k.regs a.regs
+  pub arrays : b.arrays ≡ a.arrays
+  pub stores : b.stores ≡ a.stores
 
 state_same : (k : Choice) (a b : Held) (bits : ℕ) → IsSameHeld k a b → IsSameState k (state_in a bits) (state_in b bits)
 state_same k a b bits t = record { inputs = cc (t.stores); regs = t.regs; arrays = t.arrays }
 
-next_same : (k : Choice) (n : Netlist) → IsClosed (circuit_of n) k → IsWell (circuit_of n) → (a b : Held) (bits : ℕ)
+-- where a netlist and its pruned one hold the same they do so after a cycle
+pub next_same : (k : Choice) (n : Netlist) → IsClosed (circuit_of n) k → IsWell (circuit_of n) → (a b : Held) (bits : ℕ)
     → IsSameHeld k a b → IsSameHeld k (next n a bits) (next (pruned k n) b bits)
 next_same k n h w a b bits t =
     let s = state_same k a b bits t in record {
@@ -181,6 +183,11 @@ next_same k n h w a b bits t =
           ∙ ap (λ xs. next_stores (after k n) (output_values (circuit_of n) (state_in a bits)) (delayed_mems n) xs bits) t.stores
           ∙ stores_same k n (output_values (circuit_of n) (state_in a bits)) (delayed_mems n) a.stores bits;
     }
+
+-- where they hold the same a kept net has one value in both, by its new number in the pruned one
+pub value_kept : (k : Choice) (n : Netlist) → IsClosed (circuit_of n) k → IsWell (circuit_of n) → (a b : Held) (bits : ℕ)
+    → IsSameHeld k a b → (x : Net) → IsThere (circuit_of n) x → IsKept k x → IsSame k n (state_in a bits) (state_in b bits) x
+value_kept k n h w a b bits t x there kept = value_same k n h w (state_in a bits) (state_in b bits) (state_same k a b bits t) x there kept
 
 run_same : (k : Choice) (n : Netlist) → IsClosed (circuit_of n) k → IsWell (circuit_of n)
     → (a b : Held) (schedule : List ℕ) → IsSameHeld k a b
@@ -205,11 +212,15 @@ resets_same k (b ∷ bs) [] = refl
 resets_same k (true ∷ bs) (r ∷ rs) = ap (λ xs. r.reset ∷ xs) (resets_same k bs rs)
 resets_same k (false ∷ bs) (r ∷ rs) = resets_same k bs rs
 
--- a well formed netlist pruned by a closed choice shows the same in each cycle, from each image
-pub shows_same : (k : Choice) (n : Netlist) → IsClosed (circuit_of n) k → IsWell (circuit_of n)
-    → (image : List (List ℕ)) (schedule : List ℕ) → nports (pruned k n) image schedule ≡ nports n image schedule
-shows_same k n h w image schedule = run_same k n h w (start n image) (start (pruned k n) image) schedule (record {
+-- a netlist and its pruned one hold the same at the start, from each image
+pub start_same : (k : Choice) (n : Netlist) (image : List (List ℕ)) → IsSameHeld k (start n image) (start (pruned k n) image)
+start_same k n image = record {
   regs = resets_same k k.regs n.regs;
   arrays = loaded_same k n.arrays (drop (length (delayed_mems n)) image);
   stores = refl;
-})
+}
+
+-- a well formed netlist pruned by a closed choice shows the same in each cycle, from each image
+pub shows_same : (k : Choice) (n : Netlist) → IsClosed (circuit_of n) k → IsWell (circuit_of n)
+    → (image : List (List ℕ)) (schedule : List ℕ) → nports (pruned k n) image schedule ≡ nports n image schedule
+shows_same k n h w image schedule = run_same k n h w (start n image) (start (pruned k n) image) schedule (start_same k n image)

@@ -1,7 +1,7 @@
 // What is kept, with the new numbers of kept nets.
 ghost use Rattle.std.specs.Prelude.{◌≡◌, ◌<◌, length, slice_index_or, false, IfOk};
 ghost use Rattle.pdl_word.specs.Each.{Each};
-ghost use Rattle.pdl_net_needed.specs.Needed.{reads_of, shown_by, read_by};
+ghost use Rattle.pdl_net_needed.specs.Needed.{is_kept, reads_of, shown_by, read_by};
 ghost use Rattle.pdl_net_needed.specs.Pruned.{moved_net, moved_cell, moved_reg, moved_dir, moved_write};
 ghost use Rattle.pdl_net_needed.specs.Marks.{IsWithin, AreNumbers};
 
@@ -59,6 +59,14 @@ impl Kept {
             reg_numbers,
             cell_numbers,
         })
+    }
+
+    /// Whether a net is kept; the inputs are.
+    pub fn has(&self, net: Net) -> bool
+        requires { IsWithin self.now net }
+        ensures { result ≡ is_kept self.now net }
+    {
+        self.marks.has(net)
     }
 
     /// Whether a register is kept.

@@ -16,7 +16,7 @@ use Rattle.pdl_pipe_beside.specs.declared.ends.Squashes.{Squashes}
 use Rattle.pdl_pipe_registers.specs.declared.nets.StageNets.{StageNets}
 use Rattle.pdl_pipe_nexts.specs.declared.line.StageLine.{StageLine}
 use Rattle.pdl_pipe_nexts.specs.Nexts.{regs_of}
-use Rattle.pdl_pipe_tails.specs.declared.whole.TailNets.{TailNets}
+use Rattle.pdl_pipe_emitted.specs.pipe_tails.declared.whole.TailNets.{TailNets}
 use Rattle.pdl_pipe.specs.Emitted.{HasSteps}
 use Rattle.pdl_pipe_exprs.specs.Nets.{NetsThere, signals_in, widths_of}
 use Rattle.pdl_pipe_exprs.proofs.NetLists.{there_keeps, signals_keep}

@@ -12,3 +12,7 @@ pub mod MadeLaw
 pub mod MadeNetlist
 pub mod NeededPart
 pub mod NeededFolded
+pub mod ShownNames
+pub mod MadeNames
+pub mod NamedParts
+pub mod KeptNames

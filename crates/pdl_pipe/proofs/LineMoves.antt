@@ -14,9 +14,9 @@ use Rattle.pdl_pipe_beside.specs.Orders.{StandOrders}
 use Rattle.pdl_pipe_beside.proofs.OrderParts.{is_merged_by}
 use Rattle.pdl_pipe_nexts.specs.declared.line.StageLine.{StageLine}
 use Rattle.pdl_pipe_nexts.specs.Lines.{IsLineIn}
-use Rattle.pdl_pipe_moves.specs.declared.whole.MoveNets.{MoveNets}
-use Rattle.pdl_pipe_moves.specs.Gates.{HasTurns, IsOrderThere}
-use Rattle.pdl_pipe_moves.specs.Passed.{AreMoved}
+use Rattle.pdl_pipe_emitted.specs.pipe_moves.declared.whole.MoveNets.{MoveNets}
+use Rattle.pdl_pipe_emitted.specs.pipe_moves.Gates.{HasTurns, IsOrderThere}
+use Rattle.pdl_pipe_emitted.specs.pipe_moves.Passed.{AreMoved}
 use Rattle.pdl_pipe_emitted.specs.Emitted.{IsLayout}
 
 -- each merge has the order of its fork

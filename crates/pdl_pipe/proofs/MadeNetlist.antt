@@ -6,9 +6,9 @@ use Rattle.pdl_semantics.specs.Tree as tree
 use Rattle.pdl_semantics.specs.Flatten.{flat}
 use Rattle.pdl_rules.specs.Refusal.{KeepsRules}
 use Rattle.pdl_source_paths.specs.Source.{is_source, is_named}
-use Rattle.pdl_form.specs.Form.{Form, form_of}
+use Rattle.pdl_form.specs.Form.{form_of}
 use Rattle.pdl_net.specs.declared.Netlist.{Netlist}
-use Rattle.pdl_net.specs.Circuit.{Circuit, circuit_of, shape_of, shapes_of}
+use Rattle.pdl_net.specs.Circuit.{circuit_of, shape_of, shapes_of}
 use Rattle.pdl_net.specs.Signal.{Signal}
 use Rattle.pdl_net.specs.Well.{IsWell}
 use Rattle.pdl_law_parts.specs.Walk.{Locks}
@@ -21,21 +21,22 @@ use Rattle.pdl_pipe_locks.proofs.LockGrowth.{Stays}
 use Rattle.pdl_law_follows.specs.Follows.{Follows, IsMade}
 use Rattle.pdl_law_follows.specs.Memories.{net_infos}
 use Rattle.pdl_law_follows.proofs.FollowsMade.{follows}
-use Rattle.pdl_pipe_emitted.proofs.LockRuns.{stages_made}
+use Rattle.pdl_pipe_emitted.proofs.LockRuns.{stages_made, stands_made, seen_made}
 use Rattle.pdl_pipe_emitted.proofs.LockCycles.{used_locks}
 use Rattle.pdl_pipe_emitted.specs.Emitted.{views_of, moves_of, gates_of, sides_of}
 use Rattle.pdl_pipe.specs.Emitted.{IsEmitted}
 use Rattle.pdl_pipe.specs.Locks.{HasLocks}
+use Rattle.pdl_pipe.specs.declared.names.NamedNet.{NamedNet}
+use Rattle.pdl_pipe.specs.Names.{AreAllNames}
+use Rattle.pdl_pipe.specs.NamedNets.{AreNamedIn}
 use Rattle.pdl_pipe.proofs.MadeMemories.{same_names, same_shapes, commits_fit}
 use Rattle.pdl_pipe.proofs.MadeLaw.{KeepsLaw, keeps_law}
+use Rattle.pdl_pipe.proofs.ShownNames.{IsSeenAlways}
+use Rattle.pdl_pipe.proofs.MadeNames.{all_names}
 
 shapes_listed : (n : Netlist) → map shape_of n.arrays ≡ shapes_of (circuit_of n)
 unfolding shapes_of
 shapes_listed n = refl
-
--- nets of one form in one circuit are nets of the same form in the same circuit
-pub emitted_as : {T : Type 0} (l : Members T) (b c : Circuit) (f g : Form) → b ≡ c → f ≡ g → IsEmitted l b f → IsEmitted l c g
-emitted_as l b c f g same is h = subst (λ (y : Circuit). IsEmitted l y g) same (subst (IsEmitted l b) is h)
 
 module _ {T : Type 0} (l : Members T) (stays : Stays l) (p : tree.Pipe) (n : Netlist) (emitted : IsEmitted l (circuit_of n) (form_of p))
     (name : n.name ≡ p.name.name) (mems : n.mems ≡ net_infos p.mems) (well : IsWell (circuit_of n)) where
@@ -96,3 +97,13 @@ module _ {T : Type 0} (l : Members T) (stays : Stays l) (p : tree.Pipe) (n : Net
       alike = stages_made p rules source named ls vs gates moves sides n made;
       used = used_locks l p rules source named n (circuit_of n) locks law.locked.locked vs gates moves sides made;
     }
+
+    always : IsSeenAlways p n ls vs moves
+    always = record {
+      stands = stands_made p rules source named ls vs gates moves sides n made;
+      seen = seen_made p rules source named ls vs gates moves sides n made;
+    }
+
+    -- its nets that are named show what they are named for, and it has all names
+    pub names_made : (names : List NamedNet) → AreNamedIn (circuit_of n) emitted.nets.line names → AreAllNames p n names
+    names_made names in_line = all_names l p n emitted ls always names in_line

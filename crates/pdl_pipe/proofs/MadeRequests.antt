@@ -11,7 +11,7 @@ use Rattle.pdl_net.specs.Meaning.{signal}
 use Rattle.pdl_net.specs.Growth.{Keeps}
 use Rattle.pdl_net.proofs.KeptWidths.{width_keeps}
 use Rattle.pdl_pipe_exprs.specs.Nets.{signals_in, signal_at}
-use Rattle.pdl_machine_inflight.specs.Readings.{reading}
+use Rattle.pdl_law_sides.specs.Readings.{reading}
 use Rattle.pdl_law_parts.specs.Walk.{zero_bit}
 use Rattle.pdl_law_parts.specs.Views.{View, Gates}
 use Rattle.pdl_law_sides.specs.Sides.{Sides}

@@ -1,6 +1,5 @@
 -- Where no cell of a netlist could be a constant, none of its needed part could.
-use Rattle.std.proofs.Common.{◌≡◌, refl, sym, ap, ap₂, ◌∙◌, subst, ◌&&◌, arith, Result, Ok, Err, IfOk}
-use Rattle.std.specs.Prelude.{◌≢◌, AllPairs}
+use Rattle.std.proofs.Common.{◌≡◌, refl, sym, ap, ap₂, ◌∙◌, subst, ◌&&◌, arith}
 use Rattle.std.proofs.lemmas.List.{length-map}
 use Rattle.pdl_word.specs.Each.{Each}
 use Rattle.pdl_net.specs.declared.Net.{Net}
@@ -61,17 +60,6 @@ folded_pruned k n h f = record {
       ∙ f.each q.old (omega (arith, w, h.cell_count));
 }
 
-folded_part : (n p : Netlist) → IsPruned n p → AreFolded n.cells → AreFolded p.cells
-folded_part n p i f = subst (λ (q : Netlist). AreFolded q.cells) (sym i.same) (folded_pruned i.kept n (closed (circuit_of n) i.kept i.needed) f)
-
--- of the needed part, where there is memory for it
-pub needed_folded : {E : Type 0} (n : Netlist) (r : Result Netlist E) → AreFolded n.cells → IfOk r (IsPruned n)
-    → IfOk r (λ q. AreFolded q.cells)
-needed_folded n (Ok q) f i = folded_part n q i f
-needed_folded n (Err e) f i = tt
-
--- where no two cells of a netlist are equal, no two of its needed part are, if there is memory for it
-pub needed_different : {E : Type 0} (n : Netlist) (r : Result Netlist E) → AllPairs (λ a b. a ≢ b) n.cells
-    → IfOk r (λ q. AllPairs (λ a b. a ≢ b) n.cells → AllPairs (λ a b. a ≢ b) q.cells) → IfOk r (λ q. AllPairs (λ a b. a ≢ b) q.cells)
-needed_different n (Ok q) d i = i d
-needed_different n (Err e) d i = tt
+-- so it is of the needed part
+pub needed_folded : (n p : Netlist) → IsPruned n p → AreFolded n.cells → AreFolded p.cells
+needed_folded n p i f = subst (λ (q : Netlist). AreFolded q.cells) (sym i.same) (folded_pruned i.kept n (closed (circuit_of n) i.kept i.needed) f)

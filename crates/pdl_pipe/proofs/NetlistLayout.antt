@@ -36,7 +36,7 @@ use Rattle.pdl_pipe_nexts.specs.declared.line.StageLine.{StageLine}
 use Rattle.pdl_pipe_nexts.specs.Lines.{line_form, line_pipe, IsLineIn}
 use Rattle.pdl_pipe_locks.proofs.LockGrowth.{Stays, locked_kept, laws_kept}
 use Rattle.pdl_pipe_emitted.proofs.LineGrowth.{made_keep, line_there}
-use Rattle.pdl_pipe_moves.proofs.AllMoves.{filled_bits}
+use Rattle.pdl_pipe_emitted.proofs.pipe_moves.AllMoves.{filled_bits}
 use Rattle.pdl_pipe_emitted.specs.Emitted.{CanEmit, IsLayout}
 use Rattle.pdl_pipe.specs.Emitted.{HasMemories, IsLaidOut}
 use Rattle.pdl_pipe.proofs.KeptSteps.{apart_from, unwritten_kept}

@@ -30,10 +30,10 @@ use Rattle.pdl_pipe_registers.specs.Staged.{AreApart}
 use Rattle.pdl_pipe_nexts.specs.declared.line.StageLine.{StageLine}
 use Rattle.pdl_pipe_nexts.specs.Lines.{line_form, line_pipe}
 use Rattle.pdl_pipe_nexts.specs.Nexts.{regs_of, TakesNext}
-use Rattle.pdl_pipe_moves.specs.declared.whole.MoveNets.{MoveNets}
-use Rattle.pdl_pipe_moves.specs.Passed.{AreMoved}
-use Rattle.pdl_pipe_tails.specs.declared.whole.TailNets.{TailNets}
-use Rattle.pdl_pipe_tails.specs.Tails.{HasCut, IsRow}
+use Rattle.pdl_pipe_emitted.specs.pipe_moves.declared.whole.MoveNets.{MoveNets}
+use Rattle.pdl_pipe_emitted.specs.pipe_moves.Passed.{AreMoved}
+use Rattle.pdl_pipe_emitted.specs.pipe_tails.declared.whole.TailNets.{TailNets}
+use Rattle.pdl_pipe_emitted.specs.pipe_tails.Tails.{HasCut, IsRow}
 use Rattle.pdl_pipe_locks.specs.declared.deeds.StageDeeds.{StageDeeds}
 use Rattle.pdl_pipe_locks.specs.Deeds.{steps_in}
 use Rattle.pdl_pipe_locks.specs.Advised.{advises_in, ExtendsAdvice}

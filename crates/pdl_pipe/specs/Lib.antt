@@ -1,3 +1,5 @@
 pub mod Locks
 pub mod Infos
 pub mod Emitted
+pub mod Names
+pub mod NamedNets

@@ -1,5 +1,5 @@
 // All nets of a pipe, one after the other.
-ghost use Rattle.std.specs.Prelude.{◌≡◌, [], IfOk, OnOk, length, map};
+ghost use Rattle.std.specs.Prelude.{◌≡◌, [], IfOk, length, map};
 ghost use Rattle.pdl_word.specs.Each.{Each};
 ghost use Rattle.pdl_form_types.specs.Stmts.{AreWidths};
 ghost use Rattle.pdl_pipe_registers.specs.Stages.{zero_signal};
@@ -12,9 +12,11 @@ ghost use Rattle.pdl_pipe_walk.specs.Setting.{TellsTwice};
 ghost use Rattle.pdl_pipe_nexts.specs.Lines.{line_form, IsLineIn};
 ghost use Rattle.pdl_pipe_locks.specs.Suited.{AreSuited};
 ghost use Rattle.pdl_pipe_emitted.specs.Emitted.{CanEmit};
-ghost use Rattle.pdl_pipe.specs.Emitted.{HasMemoriesIn, HasMoves, IsEmitted, IsLaidOut};
+ghost use Rattle.pdl_pipe.specs.Emitted.{HasMemoriesIn, HasMoves, IsLaidOut};
+ghost use Rattle.pdl_pipe.specs.NamedNets.{IsNamedEmitted};
 
 use crate::deeds::{stage_ends, stage_ports};
+use crate::names::{NamedNet, Parts, names_of};
 use crate::steps::{Standing, set_registers};
 use pdl_build::Builder;
 use pdl_form::FlatPipe;
@@ -24,9 +26,9 @@ use pdl_lockapi::LockModule;
 use pdl_net::Net;
 use pdl_order::OrderRegs;
 use pdl_pipe_beside::{BesideRound, order_states, port_states, requests};
+use pdl_pipe_emitted::{MoveNets, all_moves};
 use pdl_pipe_exprs::Bits;
 use pdl_pipe_locks::memories;
-use pdl_pipe_moves::{MoveNets, all_moves};
 use pdl_pipe_nexts::StageLine;
 use pdl_pipe_outputs::{all_outputs, read_inputs, reply_inputs, show};
 use pdl_pipe_registers::tickets::next_tickets;
@@ -35,7 +37,7 @@ use pdl_pipe_walk::MemLock;
 use pdl_port::PortRegs;
 use std::alloc::Global;
 
-// What is asked of delayed memories, what the registers take next, and the outputs.
+// What is asked of delayed memories, what the registers take next, and the outputs; and what all nets stand for.
 fn emit_steps<L: LockModule>(
     alloc: Global,
     b: &mut Builder,
@@ -44,12 +46,13 @@ fn emit_steps<L: LockModule>(
     twice: &[bool],
     orders: &[Option<OrderRegs>],
     moves: &MoveNets,
-) -> Result<(), NoMemory>
+) -> Result<Vec<NamedNet>, NoMemory>
     requires can { CanEmit (line_form line.now) }
     requires twice { TellsTwice (line_form line.now) twice.now }
     requires line { IsLineIn b.old line.now }
     requires moved { HasMoves (members L.LockModule) b.old line.now locks.now orders.now moves.now }
-    ensures { OnOk result (IsEmitted (members L.LockModule) b.new (line_form line.now)) }
+    ensures { IfOk result (λ ns. IsNamedEmitted (members L.LockModule) b.new
+        (line_form line.now) ns.items) }
 {
     let ends = stage_ends(alloc, line)?;
     let round = BesideRound {
@@ -78,7 +81,13 @@ fn emit_steps<L: LockModule>(
         moves.squash,
     )?;
     show(b, outs.as_slice())?;
-    Ok(())
+    let parts = Parts {
+        line,
+        locks,
+        orders,
+        tails: &steps.tails,
+    };
+    names_of(alloc, b, &parts)
 }
 
 // Who moves, and all that follows from it; of the line neither moves nor removals are looked at.
@@ -89,12 +98,13 @@ fn emit_moves<L: LockModule>(
     locks: &[Option<MemLock<L>>],
     twice: &[bool],
     orders: &[Option<OrderRegs>],
-) -> Result<(), NoMemory>
+) -> Result<Vec<NamedNet>, NoMemory>
     requires can { CanEmit (line_form line.now) }
     requires twice { TellsTwice (line_form line.now) twice.now }
     requires line { IsLineIn b.old line.now }
     requires laid { IsLaidOut (members L.LockModule) b.old line.now locks.now orders.now }
-    ensures { OnOk result (IsEmitted (members L.LockModule) b.new (line_form line.now)) }
+    ensures { IfOk result (λ ns. IsNamedEmitted (members L.LockModule) b.new
+        (line_form line.now) ns.items) }
 {
     let moves = all_moves(alloc, b, line, orders)?;
     let moving = StageLine {
@@ -104,8 +114,7 @@ fn emit_moves<L: LockModule>(
         moves: moves.moves.as_slice(),
         kills: moves.kills.as_slice(),
     };
-    emit_steps(alloc, b, &moving, locks, twice, orders, &moves)?;
-    Ok(())
+    emit_steps(alloc, b, &moving, locks, twice, orders, &moves)
 }
 
 // A zero of the width of each variable.
@@ -142,12 +151,13 @@ fn emit_stages<L: LockModule>(
     locks: &[Option<MemLock<L>>],
     twice: &[bool],
     ports: &[Option<PortRegs>],
-) -> Result<(), NoMemory>
+) -> Result<Vec<NamedNet>, NoMemory>
     requires can { CanEmit (form pipe.now) }
     requires twice { TellsTwice (form pipe.now) twice.now }
     requires memories { HasMemoriesIn (members L.LockModule) b.old
         (form pipe.now) bits locks.now ports.now }
-    ensures { OnOk result (IsEmitted (members L.LockModule) b.new (form pipe.now)) }
+    ensures { IfOk result (λ ns. IsNamedEmitted (members L.LockModule) b.new
+        (form pipe.now) ns.items) }
 {
     let orders = order_states(alloc, b, pipe)?;
     let stages = stages(alloc, b, pipe, bits, locks, twice, ports)?;
@@ -167,21 +177,21 @@ fn emit_stages<L: LockModule>(
         moves: blank.as_slice(),
         kills: blank.as_slice(),
     };
-    emit_moves(alloc, b, &line, locks, twice, orders.as_slice())?;
-    Ok(())
+    emit_moves(alloc, b, &line, locks, twice, orders.as_slice())
 }
 
-/// All nets of a pipe in an empty netlist, with these locks for its memories: inputs, memories with their locks, ports, and what follows from them.
+/// All nets of a pipe in an empty netlist, with these locks for its memories: inputs, memories with their locks, ports, and what follows from them; and what they stand for.
 pub fn emit_all<L: LockModule + Copy>(
     alloc: Global,
     b: &mut Builder,
     pipe: &FlatPipe,
     locks: &[Option<L>],
-) -> Result<(), NoMemory>
+) -> Result<Vec<NamedNet>, NoMemory>
     requires empty { b.old ≡ empty_circuit }
     requires can { CanEmit (form pipe.now) }
     requires suited { AreSuited L.suits (members L.LockModule) (form pipe.now) locks.now }
-    ensures { OnOk result (IsEmitted (members L.LockModule) b.new (form pipe.now)) }
+    ensures { IfOk result (λ ns. IsNamedEmitted (members L.LockModule) b.new
+        (form pipe.now) ns.items) }
 {
     let inputs = reply_inputs(alloc, b, pipe)?;
     let reads = read_inputs(alloc, pipe, inputs.as_slice())?;
@@ -198,6 +208,5 @@ pub fn emit_all<L: LockModule + Copy>(
         made.as_slice(),
         flags,
         ports.as_slice(),
-    )?;
-    Ok(())
+    )
 }

@@ -21,9 +21,9 @@ use pdl_lockapi::{LockModule, LockNets};
 use pdl_net::Net;
 use pdl_order::OrderRegs;
 use pdl_pipe_beside::{BesideRound, Squashes, StageEnd, order_steps, port_steps};
+use pdl_pipe_emitted::{TailNets, tails};
 use pdl_pipe_locks::{Round as LockRound, advise, step};
 use pdl_pipe_nexts::{StageLine, connect};
-use pdl_pipe_tails::{TailNets, tails};
 use pdl_pipe_walk::MemLock;
 use std::alloc::Global;
 

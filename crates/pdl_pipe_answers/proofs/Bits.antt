@@ -7,11 +7,11 @@ use Rattle.pdl_semantics.specs.Stages.{mem_at, stage_at}
 use Rattle.pdl_net.specs.Circuit.{Circuit, State}
 use Rattle.pdl_net.specs.Signal.{Signal}
 use Rattle.pdl_net.specs.Growth.{Keeps}
-use Rattle.pdl_law_parts.specs.Walk.{one, zero_bit, both, is_on}
-use Rattle.pdl_law_parts.proofs.Signals.{mux_by, one_is, zero_is}
+use Rattle.pdl_law_sides.specs.Walk.{one, zero_bit, both, is_on}
+use Rattle.pdl_law_sides.proofs.Signals.{mux_by, one_is, zero_is}
 use Rattle.pdl_port.specs.declared.PortRegs.{PortRegs}
 use Rattle.pdl_port.specs.Laws.{AnswerSignals, HasAnswerNets, answer_signals, places as port_places}
-use Rattle.pdl_machine_inflight.specs.Readings.{Reading, reading, places, places_of}
+use Rattle.pdl_law_sides.specs.Readings.{Reading, reading, places, places_of}
 use Rattle.pdl_law_sides.specs.Sides.{place_answered, memory_answered, all_answered}
 use Rattle.pdl_pipe_answers.specs.Ports.{port_at, port_answers, answers_in, IsPortFor, HasAnswers, IsOnAs, answered_where}
 use Rattle.pdl_pipe_answers.proofs.PortAnswers.{at_place}

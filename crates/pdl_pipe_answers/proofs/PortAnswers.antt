@@ -5,14 +5,14 @@ use Rattle.std.proofs.lemmas.Bool.{false≢true}
 use Rattle.pdl_semantics.specs.Flat as flat
 use Rattle.pdl_semantics.specs.Flat.{Next, Pipe}
 use Rattle.pdl_semantics.specs.Stages.{mem_at, stage_at}
-use Rattle.pdl_machine_facts.specs.Slots.{leads_to}
+use Rattle.pdl_law_sides.specs.Slots.{leads_to}
 use Rattle.pdl_net.specs.Circuit.{Circuit}
 use Rattle.pdl_net.specs.Signal.{Signal, mux_signal}
 use Rattle.pdl_net.specs.Growth.{Keeps}
 use Rattle.pdl_net.proofs.KeptWidths.{width_keeps}
 use Rattle.pdl_port.specs.declared.PortRegs.{PortRegs}
 use Rattle.pdl_port.specs.Laws.{AnswerSignals, HasAnswerNets, answer_at, answer_signals, places as port_places}
-use Rattle.pdl_machine_inflight.specs.Readings.{Reading, reading, places, places_of}
+use Rattle.pdl_law_sides.specs.Readings.{Reading, reading, places, places_of}
 use Rattle.pdl_law_sides.specs.Sides.{place_answer, memory_answer, some_answer, with_answer}
 use Rattle.pdl_pipe_answers.specs.Readings.{gets_one, gets_some, gets_answer}
 use Rattle.pdl_pipe_answers.specs.Ports.{port_at, answers_in, IsPortFor, HasAnswers}

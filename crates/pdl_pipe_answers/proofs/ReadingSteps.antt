@@ -4,7 +4,7 @@ use Rattle.std.specs.Prelude.{Option, Some, None, if◌then◌else◌}
 use Rattle.pdl_semantics.specs.Flat as flat
 use Rattle.pdl_semantics.specs.Flat.{Op, Stmt}
 use Rattle.pdl_semantics.specs.Forms.{on_delayed_read}
-use Rattle.pdl_machine_inflight.specs.Readings.{Reading, reading_in}
+use Rattle.pdl_law_sides.specs.Readings.{Reading, reading_in}
 use Rattle.pdl_pipe_answers.specs.Readings.{bound_by}
 
 -- the first statement binds x, or the reading is that of the rest

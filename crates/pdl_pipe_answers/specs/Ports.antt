@@ -9,8 +9,8 @@ use Rattle.pdl_net.specs.Signal.{Signal, no_signal, mux_signal}
 use Rattle.pdl_net.specs.HasWidth.{HasWidth}
 use Rattle.pdl_port.specs.declared.PortRegs.{PortRegs}
 use Rattle.pdl_port.specs.Laws.{AnswerSignals, HasAnswerNets, answer_signals, places as port_places}
-use Rattle.pdl_law_parts.specs.Walk.{both, is_on}
-use Rattle.pdl_machine_inflight.specs.Readings.{Reading, reading, places}
+use Rattle.pdl_law_sides.specs.Walk.{both, is_on}
+use Rattle.pdl_law_sides.specs.Readings.{Reading, reading, places}
 
 -- two signals are 1 in the same states
 abbrev pub IsOnAs : Signal → Signal → Type 0

@@ -3,8 +3,8 @@ use Rattle.std.specs.Prelude.{ℕ, zero, suc, ◌==◌, Bool, false, ◌&&◌, �
 use Rattle.pdl_semantics.specs.Flat.{Op, Pipe}
 use Rattle.pdl_semantics.specs.Forms.{on_delayed_read}
 use Rattle.pdl_semantics.specs.Stages.{stage_at}
-use Rattle.pdl_machine_facts.specs.Slots.{leads_to}
-use Rattle.pdl_machine_inflight.specs.Readings.{Reading, reading}
+use Rattle.pdl_law_sides.specs.Slots.{leads_to}
+use Rattle.pdl_law_sides.specs.Readings.{Reading, reading}
 use Rattle.pdl_pipe_answers.specs.declared.readings.Reading as r_reading
 
 -- the delayed read that a value of the program stands for

@@ -5,7 +5,7 @@ ghost use Rattle.pdl_form.specs.View.{next_view};
 ghost use Rattle.pdl_net.specs.Meaning.{IsThere, Means, signal};
 ghost use Rattle.pdl_net.specs.Growth.{Extends};
 ghost use Rattle.pdl_port.specs.Laws.{HasAnswerNets, answer_at, answer_signals, places as port_places};
-ghost use Rattle.pdl_machine_inflight.specs.Readings.{places_of, reading as read_of};
+ghost use Rattle.pdl_law_sides.specs.Readings.{places_of, reading as read_of};
 ghost use Rattle.pdl_law_sides.specs.Sides.{place_answer as place_signal, memory_answer as memory_signal, with_answer};
 ghost use Rattle.pdl_pipe_answers.specs.Ports.{port_at, answers_in, HasAnswers, BindsWide, answer_where};
 

@@ -5,9 +5,9 @@ ghost use Rattle.pdl_form.specs.View.{next_view};
 ghost use Rattle.pdl_net.specs.Growth.{Extends};
 ghost use Rattle.pdl_net.specs.Meaning.{signal};
 ghost use Rattle.pdl_pipe_exprs.specs.Conditions.{AreBits};
-ghost use Rattle.pdl_law_parts.specs.Walk.{both};
+ghost use Rattle.pdl_law_sides.specs.Walk.{both};
 ghost use Rattle.pdl_port.specs.Laws.{HasAnswerNets, answer_signals, places as port_places};
-ghost use Rattle.pdl_machine_inflight.specs.Readings.{places_of, reading as read_of};
+ghost use Rattle.pdl_law_sides.specs.Readings.{places_of, reading as read_of};
 ghost use Rattle.pdl_law_sides.specs.Sides.{place_answered, memory_answered, all_answered as all_signal};
 ghost use Rattle.pdl_pipe_answers.specs.Ports.{answers_in, HasAnswers, IsBit, IsBitFor, answered_where};
 

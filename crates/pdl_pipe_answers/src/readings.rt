@@ -1,10 +1,10 @@
 // The delayed reads of a pipe.
 ghost use Rattle.std.specs.Prelude.{◌≡◌, ◌+◌, ◌<◌, ◌≤◌, ◌-◌, length, option_map};
-ghost use Rattle.pdl_machine_facts.specs.Slots.{leads_to as may_lead};
+ghost use Rattle.pdl_law_sides.specs.Slots.{leads_to as may_lead};
 ghost use Rattle.pdl_form.specs.FormView.{form};
 ghost use Rattle.pdl_form.specs.View.{act_view, next_view, stmts_view};
 ghost use Rattle.pdl_semantics.specs.Stages.{stage_at};
-ghost use Rattle.pdl_machine_inflight.specs.Readings.{reading as read_of, reading_in};
+ghost use Rattle.pdl_law_sides.specs.Readings.{reading as read_of, reading_in};
 ghost use Rattle.pdl_pipe_answers.specs.Readings.{reading_view, bound_by, gets_one, gets_some, gets_answer as gets};
 
 use pdl_form::{FlatPipe, FlatStmt, Next, Op};

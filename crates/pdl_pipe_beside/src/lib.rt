@@ -18,6 +18,7 @@ pub use order_round::order_steps;
 pub use orders::order_states;
 pub use outside::{RequestNets, requests};
 use pdl_net::Net;
+pub use pdl_pipe_answers::read_delayed;
 pub use port_round::port_steps;
 pub use ports::port_states;
 

@@ -22,3 +22,4 @@ pub mod SidesGates
 pub mod SidesLeaves
 pub mod MergedForks
 pub mod Emittable
+pub use Rattle.pdl_pipe_moves.proofs as pipe_moves

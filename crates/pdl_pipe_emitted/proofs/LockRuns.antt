@@ -26,19 +26,19 @@ use Rattle.pdl_law_parts.specs.Views.{View, Gates}
 use Rattle.pdl_law_parts.specs.DeclaredMems.{mem_names}
 use Rattle.pdl_law_parts.specs.Places.{delayed_count}
 use Rattle.pdl_law_parts.specs.States.{held_after}
-use Rattle.pdl_law_parts.specs.Stands.{IsSeen, IsSquashed, StandsLock}
+use Rattle.pdl_law_parts.specs.Stands.{IsSeen, IsSquashed, StandsFor, StandsLock}
 use Rattle.pdl_law_parts.proofs.AnsweredThreads.{stood}
 use Rattle.pdl_law_parts.proofs.StageLooks.{lock_there}
 use Rattle.pdl_law_parts.proofs.LockActs.{act_of, drives, filled_is, proper}
 use Rattle.pdl_law_parts.proofs.LockStep.{step_is}
 use Rattle.pdl_law_sides.specs.Sides.{Sides}
 use Rattle.pdl_law_sides.specs.WholeNetlist.{in_order, replies_of}
-use Rattle.pdl_law.specs.StandingStates.{IsLawful, IsKnown}
-use Rattle.pdl_law.specs.MadeNetlist.{IsMadeWhole}
-use Rattle.pdl_law.proofs.OutputNames.{Apart}
-use Rattle.pdl_law.proofs.WholeRuns as runs
-use Rattle.pdl_law.proofs.WholeRuns.{stands_next}
-use Rattle.pdl_law.proofs.ShowsSource.{IsStandingFor, lawful, apart, known_source, stands_source}
+use Rattle.pdl_law_follows.specs.law.StandingStates.{IsLawful, IsKnown}
+use Rattle.pdl_law_follows.specs.law.MadeNetlist.{IsMadeWhole}
+use Rattle.pdl_law_follows.proofs.law.OutputNames.{Apart}
+use Rattle.pdl_law_follows.proofs.law.WholeRuns as runs
+use Rattle.pdl_law_follows.proofs.law.WholeRuns.{stands_next}
+use Rattle.pdl_law_follows.proofs.law.ShowsSource.{IsStandingFor, lawful, apart, known_source, stands_source}
 use Rattle.pdl_law_follows.specs.Follows.{IsMade}
 use Rattle.pdl_law_follows.specs.Memories.{replies_in}
 use Rattle.pdl_law_follows.specs.Refined.{machine_after}
@@ -140,19 +140,23 @@ module _ (p : tree.Pipe) (rules : KeepsRules p) (source : is_source p ≡ true) 
           (known_source p rules source named) ls vs gates moves sides n made.compiled made.formed.well made.mems
           (arrays_of (in_order (flat p) image)) h st x b
 
-      used_standing : (m : ℕ) → is_locked (flat p) m ≡ true → IsUsedLock (flat p) ls vs gates moves (state_in h b) st (replies_of (delayed_count (flat p)) b) m
-      used_standing m locked =
+      stands : StandsFor (flat p) ls vs (state_in h b) st
+      stands =
           let suits =
           runs.suits (flat p)
           (mem_names p.mems) far law
           (known_source p rules source named) ls vs gates moves sides n made.compiled made.formed.well made.mems
           (arrays_of (in_order (flat p) image)) h st x b in
+          (x.whole b suits).stands
+
+      used_standing : (m : ℕ) → is_locked (flat p) m ≡ true → IsUsedLock (flat p) ls vs gates moves (state_in h b) st (replies_of (delayed_count (flat p)) b) m
+      used_standing m locked =
           used_here (flat p) ls vs gates moves (state_in h b) st (replies_of (delayed_count (flat p)) b) knows seen
           (runs.squashed (flat p)
           (mem_names p.mems) far law
           (known_source p rules source named) ls vs gates moves sides n made.compiled made.formed.well made.mems
           (arrays_of (in_order (flat p) image)) h st x b)
-          m locked ((x.whole b suits).stands.locks m locked) (made.compiled.laid.locks m locked).kind
+          m locked (stands.locks m locked) (made.compiled.laid.locks m locked).kind
           (λ k low. (made.compiled.laid.stages k low).tickets_wide m locked)
 
       stage_standing : (k : ℕ) → k < length (flat p).stages → IsStageAs (vs k) (moves k) (state_in h b) (flat p) st (replies_of (delayed_count (flat p)) b) k
@@ -191,3 +195,16 @@ module _ (p : tree.Pipe) (rules : KeepsRules p) (source : is_source p ≡ true) 
         (machine_after (flat p) image schedule) (replies_of (delayed_count (flat p)) bits) k
     stages_made image schedule bits k is_image low =
         stage_standing whole image (held_after n (start n image) schedule) (machine_after (flat p) image schedule) (reached image schedule is_image) bits k low
+
+    -- the state of the cycle stands for the machine's
+    pub stands_made : (image : List (List ℕ)) (schedule : List ℕ) (bits : ℕ) → IsImage n.mems image
+        → StandsFor (flat p) ls vs (state_in (held_after n (start n image) schedule) bits) (machine_after (flat p) image schedule)
+    stands_made image schedule bits is_image =
+        stands whole image (held_after n (start n image) schedule) (machine_after (flat p) image schedule) (reached image schedule is_image) bits
+
+    -- each stage is seen to be as the machine's
+    pub seen_made : (image : List (List ℕ)) (schedule : List ℕ) (bits k : ℕ) → IsImage n.mems image → k < length (flat p).stages
+        → IsSeen (flat p) vs moves (state_in (held_after n (start n image) schedule) bits)
+        (machine_after (flat p) image schedule) (replies_of (delayed_count (flat p)) bits) k
+    seen_made image schedule bits k is_image low =
+        seen whole image (held_after n (start n image) schedule) (machine_after (flat p) image schedule) (reached image schedule is_image) bits k low

@@ -23,7 +23,7 @@ use Rattle.pdl_pipe_exprs.proofs.NetLists.{signals_keep}
 use Rattle.pdl_law_parts.specs.Walk.{is_on}
 use Rattle.pdl_law_parts.specs.Views.{View, moves_where}
 use Rattle.pdl_pipe_walk.proofs.Lists.{each_by}
-use Rattle.pdl_pipe_registers.proofs.Lists.{some_stage, view_at}
+use Rattle.pdl_pipe_nexts.proofs.pipe_registers.Lists.{some_stage, view_at}
 use Rattle.pdl_pipe_beside.specs.Ports.{StandPorts}
 use Rattle.pdl_pipe_beside.proofs.OrderSteps.{squashes_keep}
 use Rattle.pdl_pipe_answers.specs.Ports.{IsBit, IsBitFor}

@@ -27,7 +27,7 @@ use Rattle.pdl_pipe_moves.specs.Inside.{LeadsInside}
 use Rattle.pdl_pipe_moves.specs.Passed.{IsFreeBy, HasFree, HaveFree}
 use Rattle.pdl_pipe_moves.proofs.GateParts.{bits_keep}
 use Rattle.pdl_pipe_moves.proofs.PassageGrowth.{free_as, free_keep, place_leads}
-use Rattle.pdl_pipe_registers.proofs.Begins.{signal_old, signal_new}
+use Rattle.pdl_pipe_nexts.proofs.pipe_registers.Begins.{signal_old, signal_new}
 
 -- ---- nets by their places
 

@@ -11,8 +11,8 @@ use Rattle.pdl_law_parts.specs.Walk.{one, zero_bit}
 use Rattle.pdl_law_sides.specs.HasSides.{squash_of}
 use Rattle.pdl_pipe_exprs.specs.Nets.{signals_in, signal_at}
 use Rattle.pdl_pipe_answers.specs.Ports.{IsBit}
-use Rattle.pdl_pipe_registers.specs.declared.nets.StageNets.{StageNets}
-use Rattle.pdl_pipe_registers.specs.Stages.{IsAt}
+use Rattle.pdl_pipe_nexts.specs.pipe_registers.declared.nets.StageNets.{StageNets}
+use Rattle.pdl_pipe_nexts.specs.pipe_registers.Stages.{IsAt}
 use Rattle.pdl_pipe_nexts.specs.declared.line.StageLine.{StageLine}
 use Rattle.pdl_pipe_nexts.specs.Lines.{line_pipe, line_views}
 use Rattle.pdl_pipe_moves.specs.declared.squash.StageSquash.{StageSquash}

@@ -15,7 +15,7 @@ use Rattle.pdl_law_parts.specs.Views.{View, out_of, branch}
 use Rattle.pdl_law_parts.proofs.Signals.{mux_by, one_is, zero_is}
 use Rattle.pdl_pipe_nexts.specs.declared.arrivals.Arrival.{Arrival}
 use Rattle.pdl_pipe_nexts.specs.Arrivals.{Comes, IsArrival, AreArrivals}
-use Rattle.pdl_pipe_answers.proofs.Bits.{bit_on}
+use Rattle.pdl_pipe_registers.proofs.Bits.{bit_on}
 
 -- ---- forks
 

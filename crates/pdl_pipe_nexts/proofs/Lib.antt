@@ -4,3 +4,4 @@ pub mod BirthsMade
 pub mod BroughtItems
 pub mod NextsMade
 pub mod ConnectedRegisters
+pub use Rattle.pdl_pipe_registers.proofs as pipe_registers

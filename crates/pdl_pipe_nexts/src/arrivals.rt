@@ -14,10 +14,9 @@ use pdl_build::Builder;
 use pdl_form::Next;
 use pdl_kit::{NoMemory, Seq};
 use pdl_net::Net;
-use pdl_pipe_answers::next_of;
 use pdl_pipe_exprs::Bits;
 use pdl_pipe_exprs::exprs::variable;
-use pdl_pipe_registers::ways_into;
+use pdl_pipe_registers::{next_of, ways_into};
 use std::alloc::Global;
 
 /// A thread that may come into a stage: the stage that it comes out of, and whether it comes, 1 bit.

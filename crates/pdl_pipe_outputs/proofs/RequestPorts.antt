@@ -8,7 +8,7 @@ use Rattle.pdl_net.specs.Circuit.{Circuit}
 use Rattle.pdl_net.specs.Meaning.{signal}
 use Rattle.pdl_port.specs.declared.PortRegs.{PortRegs}
 use Rattle.pdl_port.specs.Laws.{own as port_own}
-use Rattle.pdl_machine_inflight.specs.Readings.{Reading, reading}
+use Rattle.pdl_law_sides.specs.Readings.{Reading, reading}
 use Rattle.pdl_pipe_walk.specs.Locked.{some_at}
 use Rattle.pdl_pipe_beside.specs.declared.PortInput.{PortInput}
 use Rattle.pdl_pipe_beside.specs.declared.ends.StageEnd.{StageEnd}

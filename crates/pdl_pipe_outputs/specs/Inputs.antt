@@ -11,7 +11,7 @@ use Rattle.pdl_net.specs.Signal.{input_signal}
 use Rattle.pdl_net.specs.Meaning.{Means}
 use Rattle.pdl_net.specs.Growth.{ExtendsPorts}
 use Rattle.pdl_build.specs.Change.{input_port}
-use Rattle.pdl_machine_inflight.specs.Readings.{Reading, reading}
+use Rattle.pdl_law_sides.specs.Readings.{Reading, reading}
 use Rattle.pdl_law_sides.specs.WholeNetlist.{reply_ports}
 use Rattle.pdl_pipe_walk.specs.Locked.{some_at}
 use Rattle.pdl_pipe_beside.specs.declared.PortInput.{PortInput}

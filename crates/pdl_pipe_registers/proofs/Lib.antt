@@ -10,3 +10,4 @@ pub mod ReadWords
 pub mod BeginMade
 pub mod StageEnds
 pub mod StagesMade
+pub use Rattle.pdl_pipe_answers.proofs.Bits

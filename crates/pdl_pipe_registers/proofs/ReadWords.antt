@@ -8,7 +8,7 @@ use Rattle.pdl_semantics.specs.Stages.{mem_at, stage_at}
 use Rattle.pdl_form.specs.Form.{Form}
 use Rattle.pdl_form_types.specs.Stmts.{IsTypedForm, IsTypedOp, AreTypedStmts}
 use Rattle.pdl_machine_facts.specs.Slots.{leads_to}
-use Rattle.pdl_machine_inflight.specs.Readings.{Reading, reading, reading_in}
+use Rattle.pdl_pipe_answers.specs.law_sides.Readings.{Reading, reading, reading_in}
 use Rattle.pdl_pipe_answers.specs.Readings.{gets_one, gets_some, gets_answer}
 use Rattle.pdl_pipe_answers.specs.Ports.{BindsWide}
 

@@ -19,7 +19,7 @@ use Rattle.pdl_port.specs.Laws.{AnswerSignals}
 use Rattle.pdl_pipe_answers.specs.Ports.{answers_in, HasAnswers}
 use Rattle.pdl_pipe_answers.proofs.PortAnswers.{answer_same}
 use Rattle.pdl_law_parts.specs.Walk.{Locks, Walk, AreRows}
-use Rattle.pdl_law_sides.specs.Sides.{with_answer}
+use Rattle.pdl_pipe_answers.specs.law_sides.Sides.{with_answer}
 use Rattle.pdl_pipe_walk.specs.declared.nets.MarkNet.{MarkNet}
 use Rattle.pdl_pipe_walk.specs.Parts.{Parts, MarkSignal, walk_of, walk_in}
 use Rattle.pdl_pipe_walk.specs.Locked.{tickets_in}

@@ -25,7 +25,7 @@ use Rattle.pdl_pipe_walk.specs.Sized.{IsWalk}
 use Rattle.pdl_pipe_walk.specs.declared.nets.WalkNets.{WalkNets}
 use Rattle.pdl_pipe_lives.specs.Needs.{goes_with, AreNeeds}
 use Rattle.pdl_port.specs.Laws.{AnswerSignals}
-use Rattle.pdl_law_sides.specs.Sides.{with_answer}
+use Rattle.pdl_pipe_answers.specs.law_sides.Sides.{with_answer}
 use Rattle.pdl_pipe_answers.specs.Ports.{HasAnswers}
 use Rattle.pdl_pipe_registers.specs.declared.nets.Item.{Item}
 use Rattle.pdl_pipe_registers.specs.declared.nets.Item.TheVariants.{Var, Mark, Ticket, Guess}

@@ -4,7 +4,7 @@ use Rattle.pdl_semantics.specs.Flat.{Pipe}
 use Rattle.pdl_form.specs.Form.{Form}
 use Rattle.pdl_machine_facts.specs.Slots.{ways}
 use Rattle.pdl_port.specs.Laws.{AnswerSignals}
-use Rattle.pdl_law_sides.specs.Sides.{with_answer}
+use Rattle.pdl_pipe_answers.specs.law_sides.Sides.{with_answer}
 use Rattle.pdl_net.specs.declared.Net.TheVariants.{Reg as RegNet}
 use Rattle.pdl_net.specs.Circuit.{Circuit, HasReg, reg_width, reg_reset}
 use Rattle.pdl_net.specs.Signal.{Signal, no_signal, reg_signal, const_signal}

@@ -13,6 +13,7 @@ pub mod ways;
 pub mod whole;
 
 pub use nets::{Earlier, Item, Shared, StageNets, StageRegs};
+pub use pdl_pipe_answers::next_of;
 pub use registers::ended;
 pub use ways::ways_into;
 pub use whole::stages;

@@ -15,8 +15,8 @@ use Rattle.pdl_net.specs.Growth.{Keeps, Extends}
 use Rattle.pdl_net.proofs.Keeps.{extends_keeps}
 use Rattle.pdl_pipe_exprs.specs.Nets.{NetsThere, signals_in, signal_at, widths_of}
 use Rattle.pdl_pipe_exprs.proofs.NetLists.{signals_keep, length_signals}
-use Rattle.pdl_pipe_registers.proofs.Lists.{up_to}
-use Rattle.pdl_pipe_registers.proofs.Begins.{next_keep}
+use Rattle.pdl_pipe_nexts.proofs.pipe_registers.Lists.{up_to}
+use Rattle.pdl_pipe_nexts.proofs.pipe_registers.Begins.{next_keep}
 use Rattle.pdl_pipe_nexts.specs.declared.line.StageLine.{StageLine}
 use Rattle.pdl_pipe_walk.specs.Guesses.{choices}
 use Rattle.pdl_pipe_nexts.specs.Lines.{line_form, line_pipe, IsLineIn}

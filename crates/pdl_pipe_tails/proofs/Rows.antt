@@ -18,8 +18,8 @@ use Rattle.pdl_law_parts.specs.Views.{View, Comer, out_of, first_coming}
 use Rattle.pdl_law_parts.specs.Ports.{all_reserves}
 use Rattle.pdl_law_parts.proofs.Signals.{mux_by}
 use Rattle.pdl_law_sides.specs.Sides.{with_tickets}
-use Rattle.pdl_pipe_registers.proofs.Lists.{up_to}
-use Rattle.pdl_pipe_registers.proofs.Begins.{next_keep, each_way, signal_old, signal_new}
+use Rattle.pdl_pipe_nexts.proofs.pipe_registers.Lists.{up_to}
+use Rattle.pdl_pipe_nexts.proofs.pipe_registers.Begins.{next_keep, each_way, signal_old, signal_new}
 use Rattle.pdl_pipe_nexts.specs.declared.arrivals.Arrival.{Arrival}
 use Rattle.pdl_pipe_nexts.specs.declared.line.StageLine.{StageLine}
 use Rattle.pdl_pipe_nexts.specs.Lines.{line_form, line_pipe, line_views, line_moves, IsLineIn}

@@ -3,14 +3,14 @@ use Rattle.std.proofs.Common.{◌≡◌, ℕ, zero, suc, ◌+◌, ◌-◌, ◌*�
 use Rattle.std.proofs.lemmas.Bool.{cases_eq, cases_lt}
 use Rattle.std.proofs.Math.Nat.{two-pow-succ}
 use Rattle.pdl_net.specs.Circuit.{Circuit, State}
-use Rattle.pdl_net.specs.Signal.{Signal, reg_value, const_value, bin_value, mux_value, slice_value}
+use Rattle.pdl_net.specs.Signal.{Signal, reg_signal, reg_value, const_value, bin_value, mux_value, slice_value}
 use Rattle.pdl_net.specs.Meaning.{next_signal}
 use Rattle.pdl_lockapi.specs.Laws.{StepSignals, SameButValues, HidesValues, ticket_at}
 use Rattle.pdl_lock_ring.specs.Slots.{addr_at, has_at, value_at, content_signal, reg_of}
 use Rattle.pdl_lock_ring.specs.Choices.{selected_signal}
 use Rattle.pdl_lock_ring.specs.Registers.{register_of}
 use Rattle.pdl_lock_ring.specs.Looks.{head_signal, tail_signal, second_ticket, slot_of}
-use Rattle.pdl_lock_ring.specs.Steps.{push_signal, push2_signal, last_addr, before_addr, first_addr, second_addr, first_slot, second_slot, takes_first, takes_second, written_slot, fills_slot, slot_addr, filled_bit, slot_value, next_head, head_after, tail_after, oldest_addr, next_addr}
+use Rattle.pdl_lock_ring.specs.Steps.{push_signal, push2_signal, last_addr, before_addr, first_addr, second_addr, first_slot, second_slot, takes_first, takes_second, number_at, reserved_addr, written_slot, fills_slot, slot_addr, filled_bit, next_head, head_after, tail_after, at_ticket, addr_of, content_of, oldest_addr, next_addr}
 use Rattle.pdl_lock_ring.proofs.Fills.{content_place}
 use Rattle.pdl_rename.specs.declared.layout.Layout.{Layout}
 use Rattle.pdl_rename.specs.Places.{IsRenaming, map_at, map_signal}
@@ -131,10 +131,18 @@ module _ (l : Layout) (f : StepSignals) (s t : State) (z : IsRenaming l) (h : Sa
   unfolding bin_value const_value
   takes_second_same k = cc second_slot_same
 
+  reserved_same : (g d : Signal) → g.value s ≡ g.value t → d.value s ≡ d.value t
+      → (reserved_addr l.slots f g d).value s ≡ (reserved_addr l.slots f g d).value t
+  unfolding reserved_addr mux_value bin_value
+  reserved_same g d p q = cc (first_slot_same, second_slot_same, first_addr_same, second_addr_same)
+
+  addr_same : (k : ℕ) → k < l.slots.size → (reg_signal l.slots.bits (addr_at l.slots k)).value s ≡ (reg_signal l.slots.bits (addr_at l.slots k)).value t
+  unfolding reg_value
+  addr_same k lt = reg_same (addr_at l.slots k) (omega arith) (omega (arith, lt))
+
   slot_addr_same : (k : ℕ) → k < l.slots.size → (slot_addr l.slots f k).value s ≡ (slot_addr l.slots f k).value t
-  unfolding slot_addr mux_value reg_value
-  slot_addr_same k lt =
-      cc (takes_second_same k, takes_first_same k, first_addr_same, second_addr_same, reg_same (addr_at l.slots k) (omega arith) (omega (arith, lt)))
+  unfolding const_value
+  slot_addr_same k lt = reserved_same (reg_signal l.slots.bits (addr_at l.slots k)) (number_at l.slots k) (addr_same k lt) refl
 
   -- ---- the writes
 
@@ -172,26 +180,31 @@ module _ (l : Layout) (f : StepSignals) (s t : State) (z : IsRenaming l) (h : Sa
       let p : 2 ^ suc b ≡ 2 ^ b + 2 ^ b = two-pow-succ b in
       cc (e, selected_same g d m u e b (from + 2 ^ b) (omega (arith, le, p)), selected_same g d m u e b from (omega (arith, le, p)))
 
-  slot_value_same : (k : ℕ) → k < l.slots.size → (slot_value l.slots f k).value s ≡ (slot_value l.slots f k).value t
-  slot_value_same k lt =
-      ap (λ (g : Signal). g.value s) (content_place l.slots f k z.place) ∙ content_same k lt
-      ∙ sym (ap (λ (g : Signal). g.value t) (content_place l.slots f k z.place))
+  addr_of_same : (d : Signal) → d.value s ≡ d.value t → (addr_of l.slots f d).value s ≡ (addr_of l.slots f d).value t
+  addr_of_same d e =
+      reserved_same (at_ticket l.slots (λ k. reg_signal l.slots.bits (addr_at l.slots k)) d) (slot_of l.slots d)
+      (selected_same (λ k. reg_signal l.slots.bits (addr_at l.slots k)) d l.slots.size addr_same e (l.slots.ticket - 1) 0 (omega (arith, z.sized.power)))
+      (slot_same d e)
+
+  content_of_same : (d : Signal) → d.value s ≡ d.value t → (content_of l.slots f d).value s ≡ (content_of l.slots f d).value t
+  content_of_same d e =
+      let g = at_ticket l.slots (content_signal l.slots) d in
+      let p = content_place l.slots f g (slot_of l.slots d) z.place in
+      ap (λ (h : Signal). h.value s) p
+      ∙ selected_same (content_signal l.slots) d l.slots.size content_same e (l.slots.ticket - 1) 0 (omega (arith, z.sized.power))
+      ∙ sym (ap (λ (h : Signal). h.value t) p)
 
   oldest_addr_same : (oldest_addr l.slots f).value s ≡ (oldest_addr l.slots f).value t
-  oldest_addr_same =
-      selected_same (slot_addr l.slots f) (head_signal l.slots) l.slots.size slot_addr_same head_same (l.slots.ticket - 1) 0 (omega (arith, z.sized.power))
+  oldest_addr_same = addr_of_same (head_signal l.slots) head_same
 
   next_addr_same : (next_addr l.slots f).value s ≡ (next_addr l.slots f).value t
-  next_addr_same =
-      selected_same (slot_addr l.slots f) (next_head l.slots) l.slots.size slot_addr_same next_same (l.slots.ticket - 1) 0 (omega (arith, z.sized.power))
+  next_addr_same = addr_of_same (next_head l.slots) next_same
 
   oldest_place_same : (oldest_place l f).value s ≡ (oldest_place l f).value t
-  oldest_place_same =
-      selected_same (slot_value l.slots f) (head_signal l.slots) l.slots.size slot_value_same head_same (l.slots.ticket - 1) 0 (omega (arith, z.sized.power))
+  oldest_place_same = content_of_same (head_signal l.slots) head_same
 
   next_place_of_same : (next_place_of l f).value s ≡ (next_place_of l f).value t
-  next_place_of_same =
-      selected_same (slot_value l.slots f) (next_head l.slots) l.slots.size slot_value_same next_same (l.slots.ticket - 1) 0 (omega (arith, z.sized.power))
+  next_place_of_same = content_of_same (next_head l.slots) next_same
 
   mapped_same : (g : Signal) → g.value s ≡ g.value t → (mapped_place l g).value s ≡ (mapped_place l g).value t
   mapped_same g e = selected_same (register_of (registers_of_map l)) g l.depth map_same e l.slots.bits 0 (omega (arith, z.depth))

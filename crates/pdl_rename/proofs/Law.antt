@@ -6,20 +6,20 @@ use Rattle.std.proofs.lemmas.Nat.{mod_below}
 use Rattle.pdl_word.specs.Words as words
 use Rattle.pdl_word.specs.Words.{bit}
 use Rattle.pdl_net.specs.Circuit.{Circuit, State}
-use Rattle.pdl_net.specs.Signal.{Signal, reg_value, const_value, bin_value, mux_value, read_value}
+use Rattle.pdl_net.specs.Signal.{Signal, read_signal, reg_value, const_value, bin_value, mux_value, read_value}
 use Rattle.pdl_lockapi.specs.Lock.{Entry, LockState, LockAct, act_at, entry_at, or_zero, filled_entries, next_base, committed, committed_words, step}
 use Rattle.pdl_lockapi.specs.Laws.{StepSignals, IsNext, after_writes, ticket_at, reserve_at}
 use Rattle.pdl_lock_ring.specs.Slots.{content_signal, value_at}
 use Rattle.pdl_lock_ring.specs.Looks.{head_signal, slot_of}
 use Rattle.pdl_lock_ring.specs.Steps as ring
-use Rattle.pdl_lock_ring.specs.Steps.{written_slot, next_head, oldest_addr, next_addr, filled_value}
+use Rattle.pdl_lock_ring.specs.Steps.{number_at, written_slot, next_head, oldest_addr, next_addr, filled_value}
 use Rattle.pdl_lock_ring.proofs.SlotNumbers.{apart}
 use Rattle.pdl_lock_ring.proofs.RingValues.{if_one, if_other, if_true, if_false, test_bit, mux_one, mux_zero, eq_one, eq_none}
 use Rattle.pdl_lock_ring.proofs.Fills.{content_place}
 use Rattle.pdl_lock_ring.proofs.FilledSlots.{Cycle, length_filled, written_value, unwritten_value}
 use Rattle.pdl_lock_ring.proofs.FilledSlots as filled
 use Rattle.pdl_lock_ring.proofs.StepLaw as ended
-use Rattle.pdl_lock_ring.proofs.StepLaw.{after_fill, ticket_value, oldest_addr_is, next_addr_is, oldest_value_is, next_value_is, left, left_long, ValuesStay, entries_next}
+use Rattle.pdl_lock_ring.proofs.StepLaw.{after_fill, filled_as, ticket_value, oldest_addr_is, next_addr_is, oldest_value_is, next_value_is, left, left_long, ValuesStay, entries_next}
 use Rattle.pdl_rename.specs.declared.layout.Layout.{Layout}
 use Rattle.pdl_rename.specs.Places.{IsRenaming, Stands, AreApart, AreBelow, map_at, store_of, word_place, slot_place, placed_signal}
 use Rattle.pdl_rename.specs.Nets.{mapped_place, place_of, place_writes, one_put, stored_signal, oldest_place, next_place_of, oldest_value, next_value, freed_slot, freed2_slot, freed_place, freed2_place, NextRename, own_rename}
@@ -87,7 +87,7 @@ module _ (l : Layout) (s : State) (x : LockState) (f : StepSignals) (a : LockAct
   stored_off j e = writes-push s (place_writes l f j) (one_put l f j) (store_of l s) ∙ if_other ((ticket_at f.writes j).enable.value s) _ _ e
 
   -- the word at a slot's place after the first j write ports
-  slot_word : (k : ℕ) → k < n → (j : ℕ) → j ≤ length a.writes → slice_index (stored j) (P k) ≡ (filled_value l.slots f (V k) k j).value s
+  slot_word : (k : ℕ) → k < n → (j : ℕ) → j ≤ length a.writes → slice_index (stored j) (P k) ≡ (filled_value l.slots f (V k) (number_at l.slots k) j).value s
   unfolding place_writes filled_value mux_value bin_value const_value read_value
   slot_word k h zero le = refl
   slot_word k h (suc j) le =
@@ -95,7 +95,7 @@ module _ (l : Layout) (s : State) (x : LockState) (f : StepSignals) (a : LockAct
       let lt : j < length a.writes = omega arith in
       let g = ticket_at f.writes j in
       let v = g.value.value s in
-      let rest = (filled_value l.slots f (V k) k j).value s in
+      let rest = (filled_value l.slots f (V k) (number_at l.slots k) j).value s in
       let w = (written_slot l.slots f j).value s in
       let p = c.stands.places in
       ⊎_elim
@@ -178,14 +178,16 @@ module _ (l : Layout) (s : State) (x : LockState) (f : StepSignals) (a : LockAct
   k1_other o e = let q = apart n x.base 1 0 (let w = two_slots o in omega (arith, w)) (omega (arith, c.cycle.sized.some)) (e ∙ ap (λ m. m % n) (let z : x.base ≡ x.base + 0 = omega arith in z)) in omega (arith, q)
 
   -- their places
-  slot_same : (k : ℕ) → (ring.slot_value l.slots f k).value s ≡ P k
-  slot_same k = ap (λ (g : Signal). g.value s) (content_place l.slots f k c.renaming.place)
+  place_of_slot : (t : Signal) (m : ℕ) → t.value s ≡ m % 2 ^ l.slots.ticket → (ring.content_of l.slots f t).value s ≡ P (m % n)
+  place_of_slot t m e =
+      ap (λ (g : Signal). g.value s) (content_place l.slots f (ring.at_ticket l.slots (content_signal l.slots) t) (slot_of l.slots t) c.renaming.place)
+      ∙ ticket_value l.slots c.cycle.sized (content_signal l.slots) t s m e
 
   place0 : (oldest_place l f).value s ≡ P k0
-  place0 = ticket_value l.slots c.cycle.sized (ring.slot_value l.slots f) (head_signal l.slots) s x.base (ended.head_value l.slots V s x f a c.cycle) ∙ slot_same k0
+  place0 = place_of_slot (head_signal l.slots) x.base (ended.head_value l.slots V s x f a c.cycle)
 
   place1 : (next_place_of l f).value s ≡ P k1
-  place1 = ticket_value l.slots c.cycle.sized (ring.slot_value l.slots f) (next_head l.slots) s (x.base + 1) (ended.next_head_value l.slots V s x f a c.cycle) ∙ slot_same k1
+  place1 = place_of_slot (next_head l.slots) (x.base + 1) (ended.next_head_value l.slots V s x f a c.cycle)
 
   -- the slots that are released
   released0 : (freed_slot l f).value s ≡ (if a.release then k0 else n)
@@ -395,7 +397,7 @@ module _ (l : Layout) (s : State) (x : LockState) (f : StepSignals) (a : LockAct
     store_next = i.arrays l.array (omega arith) (omega arith) ∙ ap (λ ps. after_writes s ps (store_of l s)) next.store ∙ ap stored (sym c.cycle.drives.count)
 
     filled_at : (k : ℕ) → k < n → slice_index (store_of l t) (P k) ≡ (after_fill l.slots f V k).value s
-    filled_at k h = ap (λ ws. slice_index ws (P k)) store_next ∙ slot_word k h (length a.writes) (omega arith) ∙ ap (λ m. (filled_value l.slots f (V k) k m).value s) c.cycle.drives.count
+    filled_at k h = ap (λ ws. slice_index ws (P k)) store_next ∙ slot_word k h (length a.writes) (omega arith) ∙ ap (λ m. (filled_value l.slots f (V k) (number_at l.slots k) m).value s) c.cycle.drives.count
 
     unchanged_at : (k : ℕ) → k < l.depth → slice_index (store_of l t) (M k) ≡ slice_index x.words k
     unchanged_at k h = ap (λ ws. slice_index ws (M k)) store_next ∙ other_word k h (length a.writes) (omega arith) ∙ c.stands.words k h
@@ -469,23 +471,20 @@ module _ (l : Layout) (s : State) (x : LockState) (f : StepSignals) (a : LockAct
   -- ---- the commits
 
   -- the word of a slot after the write ports is what its place gets
-  stored_is : (slot place : Signal) (k : ℕ) → slot.value s ≡ k → place.value s ≡ P k → (j : ℕ)
-      → (stored_signal l f slot place j).value s ≡ (filled_value l.slots f (V k) k j).value s
-  unfolding stored_signal filled_value mux_value bin_value const_value read_value
-  stored_is slot place k e p zero = ap (slice_index (store_of l s)) p
-  stored_is slot place k e p (suc j) =
-      let rest = stored_is slot place k e p j in
-      ap (λ m. words.mux (words.equal ((written_slot l.slots f j).value s) m) ((ticket_at f.writes j).value.value s) ((stored_signal l f slot place j).value s)) e
-      ∙ ap (λ m. words.mux (words.equal ((written_slot l.slots f j).value s) k) ((ticket_at f.writes j).value.value s) m) rest
+  stored_is : (slot place : Signal) (k : ℕ) → slot.value s ≡ k → place.value s ≡ P k
+      → (stored_signal l f place slot).value s ≡ (after_fill l.slots f V k).value s
+  unfolding const_value read_value
+  stored_is slot place k e p =
+      filled_as l.slots f s (read_signal l.slots.width l.array place) (V k) slot (number_at l.slots k) (length f.writes) (ap (slice_index (store_of l s)) p) e
 
   -- where a write is released, the net of its value has the oldest pending write's value
   pub commit0 : a.release ≡ true → (oldest_value l f).value s ≡ or_zero e0.value
   commit0 o =
-      stored_is (slot_of l.slots (head_signal l.slots)) (oldest_place l f) k0 (filled.slot_value l.slots c.cycle.sized (head_signal l.slots) s x.base (ended.head_value l.slots V s x f a c.cycle)) place0 (length f.writes)
+      stored_is (slot_of l.slots (head_signal l.slots)) (oldest_place l f) k0 (filled.slot_value l.slots c.cycle.sized (head_signal l.slots) s x.base (ended.head_value l.slots V s x f a c.cycle)) place0
       ∙ sym (ticket_value l.slots c.cycle.sized (after_fill l.slots f V) (head_signal l.slots) s x.base (ended.head_value l.slots V s x f a c.cycle)) ∙ oldest_value_is l.slots V s x f a c.cycle o
 
   -- where a second write is released, the net of its value has the second oldest pending write's value
   pub commit1 : a.release2 ≡ true → (next_value l f).value s ≡ or_zero e1.value
   commit1 o =
-      stored_is (slot_of l.slots (next_head l.slots)) (next_place_of l f) k1 (filled.slot_value l.slots c.cycle.sized (next_head l.slots) s (x.base + 1) (ended.next_head_value l.slots V s x f a c.cycle)) place1 (length f.writes)
+      stored_is (slot_of l.slots (next_head l.slots)) (next_place_of l f) k1 (filled.slot_value l.slots c.cycle.sized (next_head l.slots) s (x.base + 1) (ended.next_head_value l.slots V s x f a c.cycle)) place1
       ∙ sym (ticket_value l.slots c.cycle.sized (after_fill l.slots f V) (next_head l.slots) s (x.base + 1) (ended.next_head_value l.slots V s x f a c.cycle)) ∙ next_value_is l.slots V s x f a c.cycle o

@@ -13,7 +13,7 @@ use Rattle.pdl_lock_ring.specs.Choices.{selected_signal}
 use Rattle.pdl_lock_ring.specs.Registers.{register_of}
 use Rattle.pdl_lock_ring.specs.Looks.{head_signal, slot_of, youngest_value}
 use Rattle.pdl_lock_ring.specs.Steps as ring
-use Rattle.pdl_lock_ring.specs.Steps.{written_slot, next_head, oldest_addr, next_addr, NextAddrs, NextBits, NextEnds, own_row}
+use Rattle.pdl_lock_ring.specs.Steps.{filled_value, next_head, oldest_addr, next_addr, NextAddrs, NextBits, NextEnds, own_row}
 use Rattle.pdl_rename.specs.declared.layout.Layout.{Layout}
 use Rattle.pdl_rename.specs.Places.{map_at, map_signal}
 
@@ -62,22 +62,17 @@ oldest_place l f = ring.oldest_value l.slots f
 abbrev pub next_place_of : Layout → StepSignals → Signal
 next_place_of l f = ring.next_value l.slots f
 
--- the word of a slot after write port j, from what was before it
-abbrev pub put_signal : Layout → StepSignals → Signal → ℕ → Signal → Signal
-put_signal l f slot j before = mux_signal (bin_signal Eq (written_slot l.slots f j) slot) (ticket_at f.writes j).value before
-
--- the word at a place, which is that of a slot, after the first j write ports
-unfoldable pub stored_signal : Layout → StepSignals → Signal → Signal → ℕ → Signal
-stored_signal l f slot place zero = read_signal l.slots.width l.array place
-stored_signal l f slot place (suc j) = put_signal l f slot j (stored_signal l f slot place j)
+-- the word that the array has at a place, which is that of the slot of this number, after this cycle's writes
+abbrev pub stored_signal : Layout → StepSignals → Signal → Signal → Signal
+stored_signal l f place slot = filled_value l.slots f (read_signal l.slots.width l.array place) slot (length f.writes)
 
 -- the values of the two oldest pending writes, after this cycle's writes
 abbrev pub oldest_value : Layout → StepSignals → Signal
-oldest_value l f = stored_signal l f (slot_of l.slots (head_signal l.slots)) (oldest_place l f) (length f.writes)
+oldest_value l f = stored_signal l f (oldest_place l f) (slot_of l.slots (head_signal l.slots))
 
 -- the value of the pending write after the oldest, after this cycle's writes
 abbrev pub next_value : Layout → StepSignals → Signal
-next_value l f = stored_signal l f (slot_of l.slots (next_head l.slots)) (next_place_of l f) (length f.writes)
+next_value l f = stored_signal l f (next_place_of l f) (slot_of l.slots (next_head l.slots))
 
 -- the slots that are released, a number that no slot has where there is none
 abbrev pub freed_slot : Layout → StepSignals → Signal

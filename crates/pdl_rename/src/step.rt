@@ -11,7 +11,7 @@ ghost use Rattle.pdl_lock_ring.specs.Ready.{HasPorts, IsReady};
 ghost use Rattle.pdl_lock_ring.specs.Oldest.{AreOldest};
 ghost use Rattle.pdl_rename.specs.Places.{IsRenaming, HasMap, HasStore};
 ghost use Rattle.pdl_rename.specs.Freed.{AreFreed};
-ghost use Rattle.pdl_rename.specs.Nets.{place_of, place_writes, one_put, put_signal, stored_signal, oldest_value, next_value, AreRenamed, NextRename, own_store, own_rename};
+ghost use Rattle.pdl_rename.specs.Nets.{place_of, place_writes, one_put, stored_signal, oldest_value, next_value, AreRenamed, NextRename, own_store, own_rename};
 
 use crate::layout::Layout;
 use crate::look::place_registers;
@@ -20,7 +20,7 @@ use crate::places::{Freed, emit_freed, emit_places};
 use pdl_build::Builder;
 use pdl_kit::NoMemory;
 use pdl_lock_ring::choice::emit_register;
-use pdl_lock_ring::fill::{emit_written, write_port};
+use pdl_lock_ring::fill::{emit_value, write_port};
 use pdl_lock_ring::look::emit_slot_of;
 use pdl_lock_ring::slot::emit_slots;
 use pdl_lock_ring::step::{Oldest, emit_commit, emit_ends, emit_next_head, emit_oldest};
@@ -28,59 +28,29 @@ use pdl_lock_ring::taken::{Taken, emit_taken};
 use pdl_lockapi::{LockNets, LockPorts};
 use pdl_net::{BinOp, Net};
 
-/// The word of a slot after write port j, from what was before it.
-#[tactic(auto, using(pdl_lock_ring::proofs::Fills::ticket_is, pdl_lock_ring::proofs::RingGrowth::ports_kept))]
-fn emit_put_word(
-    b: &mut Builder,
-    l: Layout,
-    p: &LockPorts,
-    slot: Net,
-    j: usize,
-    before: Net,
-) -> Result<Net, NoMemory>
-    requires renaming { IsRenaming l }
-    requires given { HasPorts b.old l.slots p.now }
-    requires slot { HasWidth b.old slot l.slots.ticket }
-    requires within { j < length p.now.writes }
-    requires before { HasWidth b.old before l.slots.width }
-    ensures means { IfOk result (λ x.
-        Means b.new x (put_signal l (step_signals b.old p.now) (signal b.old slot) j
-        (signal b.old before))) }
-    ensures wide { IfOk result (λ x. (signal b.new x).width ≡ l.slots.width) }
-    ensures extends { Extends b.old b.new }
-{
-    let port = write_port(p, j);
-    let written = emit_written(b, l.slots, p, j)?;
-    let fills = b.bin(BinOp::Eq, written, slot)?;
-    let word = b.mux(fills, port.value, before)?;
-    Ok(word)
-}
-
-/// The word at a place, which is that of a slot, after this cycle's writes.
-#[tactic(auto, using(crate::proofs::Words::storing, pdl_lock_ring::proofs::RingGrowth::ports_kept))]
+/// The word at a place, which is that of the slot of this number, after this cycle's writes.
+#[tactic(auto, using(pdl_lock_ring::proofs::Fills::filling, pdl_lock_ring::proofs::RingGrowth::ports_kept))]
 fn emit_stored(
     b: &mut Builder,
     l: Layout,
     p: &LockPorts,
-    slot: Net,
     place: Net,
+    slot: Net,
 ) -> Result<Net, NoMemory>
     requires renaming { IsRenaming l }
     requires given { HasPorts b.old l.slots p.now }
     requires store { HasStore b.old l }
-    requires slot { HasWidth b.old slot l.slots.ticket }
     requires place { HasWidth b.old place l.slots.kept }
+    requires slot { HasWidth b.old slot l.slots.ticket }
     ensures means { IfOk result (λ x.
-        Means b.new x (stored_signal l (step_signals b.old p.now) (signal b.old slot)
-        (signal b.old place) (length p.now.writes))) }
+        Means b.new x (stored_signal l (step_signals b.old p.now) (signal b.old place)
+        (signal b.old slot))) }
     ensures wide { IfOk result (λ x. (signal b.new x).width ≡ l.slots.width) }
     ensures extends { Extends b.old b.new }
 {
-    let mut word = b.read(l.array, place)?;
-    for j in 0..p.writes.len() {
-        word = emit_put_word(b, l, p, slot, j, word)?;
-    }
-    Ok(word)
+    let word = b.read(l.array, place)?;
+    let stored = emit_value(b, l.slots, p, word, slot)?;
+    Ok(stored)
 }
 
 /// The words that a cycle's releases commit.
@@ -97,10 +67,10 @@ fn emit_words(b: &mut Builder, l: Layout, p: &LockPorts, o: Oldest) -> Result<(N
     ensures extends { Extends b.old b.new }
 {
     let slot = emit_slot_of(b, l.slots, Net::Reg(l.slots.from))?;
-    let first = emit_stored(b, l, p, slot, o.first.content)?;
+    let first = emit_stored(b, l, p, o.first.content, slot)?;
     let next = emit_next_head(b, l.slots)?;
     let slot2 = emit_slot_of(b, l.slots, next)?;
-    let second = emit_stored(b, l, p, slot2, o.second.content)?;
+    let second = emit_stored(b, l, p, o.second.content, slot2)?;
     Ok((first, second))
 }
 

@@ -1,7 +1,7 @@
 -- When two guards are the same.
 use Rattle.std.proofs.Common.{◌≡◌, refl, ap, true, eq-eqb}
 use Rattle.std.proofs.lemmas.Bool.{eqb-true, false≢true}
-use Rattle.pdl_word.proofs.Bytes.{bytes_same, bytes_refl}
+use Rattle.pdl_semantics.proofs.Bytes.{bytes_same, bytes_refl}
 use Rattle.pdl_rules.specs.Places.{Guard, Shared, Own, same_guard}
 
 -- each guard is the same as itself

@@ -13,8 +13,8 @@ use Rattle.pdl_rules.specs.Locks.{same_location, same_kind, Hold, Nothing, Reser
 use Rattle.pdl_rules.proofs.EachPlace.{Each}
 pub use Rattle.pdl_rules.proofs.Counts.{weight, count_push, count_cons, counted, count_none}
 use Rattle.pdl_rules.proofs.Counts.{weight, count_push, count_cons, counted}
-use Rattle.pdl_word.proofs.Bytes.{bytes_same, bytes_refl}
-use Rattle.pdl_word.proofs.Lists.{all_weaker}
+use Rattle.pdl_semantics.proofs.Bytes.{bytes_same, bytes_refl}
+use Rattle.pdl_semantics.proofs.Lists.{all_weaker}
 
 -- what the rules of locks say of a place, with the places before it on a path
 pub record KeepsLocks (p : Pipe) (before : List Place) (x : Place) : Type 0 where

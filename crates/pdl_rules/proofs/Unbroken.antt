@@ -6,7 +6,7 @@ use Rattle.pdl_semantics.specs.Tree.{Pipe}
 use Rattle.pdl_rules.specs.Places.{Place, places, line_of}
 use Rattle.pdl_rules.specs.Refusal.{breaks_rule, limits, after_limits, broken_line, refused_at, Refused, first_broken, KeepsRules}
 use Rattle.pdl_rules.proofs.EachPlace.{Each, each_back}
-use Rattle.pdl_word.proofs.Bools.{none_given}
+use Rattle.pdl_semantics.proofs.Bools.{none_given}
 
 -- where there is no refusal, this rule has no line at which it is broken, and the others have no refusal
 pub no_refusal : (r : Rule) (line : Option ℕ) (others : Option Refused) → refused_at r line others ≡ None → (line ≡ None) × (others ≡ None)

@@ -6,3 +6,4 @@
 pub mod order;
 
 pub use order::{Findings, Plans, judge};
+pub use pdl_spec::SpecPlan;

@@ -14,3 +14,6 @@ pub mod SecondWrites
 pub mod Advice
 pub mod AdviceApart
 pub mod SquashStages
+pub use Rattle.pdl_word.proofs.Bools
+pub use Rattle.pdl_word.proofs.Bytes
+pub use Rattle.pdl_word.proofs.Lists

@@ -15,3 +15,4 @@ pub mod PendingLists
 pub mod Updates
 pub mod UpdateFree
 pub mod SecondWrites
+pub use Rattle.pdl_word.specs.Words

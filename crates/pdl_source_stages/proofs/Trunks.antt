@@ -10,7 +10,7 @@ use Rattle.pdl_semantics.specs.Stages.{stage_at, in_stage, onpath, is_inside, is
 use Rattle.pdl_semantics.specs.Cycle.{merges_by}
 use Rattle.pdl_rules.specs.Forks.{is_trunk_only}
 use Rattle.pdl_rules.specs.Refusal.{KeepsRules}
-use Rattle.pdl_theory_derived.specs.Alone.{before, answered_op}
+use Rattle.pdl_theory_facts.specs.Alone.{before, answered_op}
 use Rattle.pdl_theory_facts.specs.Scans.{none_of}
 use Rattle.pdl_theory_facts.specs.Graphs.{Home, Trunk, next_of, stage_or, goes_by, on_side, Graph, Branches}
 use Rattle.pdl_theory_facts.specs.Facts.{trunk_only, visits_stage, comes_by}

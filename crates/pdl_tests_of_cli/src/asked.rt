@@ -1,6 +1,7 @@
 // The program over files and sinks in memory.
 use pdl_cli::top;
-use pdl_kit::{MemFile, MemFiles, MemSink, Name, NoMemory, Seq};
+use pdl_kit::{MemSink, Name, NoMemory, Seq};
+use pdl_system::{MemFile, MemFiles};
 use std::alloc::Global;
 
 fn file(

@@ -1,6 +1,7 @@
 // Memories that answer late: files of delays that can't be read, and what is printed of orphans.
 use crate::asked::{asked, files_with_delays};
-use pdl_kit::{MemFiles, MemSink};
+use pdl_kit::MemSink;
+use pdl_system::MemFiles;
 use std::alloc::Global;
 
 // A pipe whose threads each ask a memory that answers late.

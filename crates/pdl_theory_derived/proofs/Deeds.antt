@@ -6,7 +6,7 @@ use Rattle.pdl_semantics.specs.Machine.{Ask, same_args, all_values, checked_args
 use Rattle.pdl_semantics.specs.Machine
 use Rattle.pdl_theory_derived.specs.Derived
 use Rattle.pdl_theory_derived.specs.Derived.{said, Entry, Work, Around, work_after, do_all, has_entry, moved_up, without, with_entry_value}
-use Rattle.pdl_word.proofs.Bools.{and_swap}
+use Rattle.pdl_semantics.proofs.Bools.{and_swap}
 
 -- the locations of pending writes
 abbrev pub places : List Entry → List HeldLocation

@@ -1,7 +1,7 @@
 -- The machine that the proofs use, computed on written pipes: it has the ports of the stated machine in every cycle, and prints the same lines.
 use Rattle.std.proofs.Common.{◌≡◌, refl, ℕ, suc, Bool, true, false, ◌&&◌, ◌||◌, not, List, [], ◌∷◌, Option, Some, None, ◌==◌, bytes_eq}
 use Rattle.std.specs.Fmt.{digits}
-use Rattle.pdl_word.specs.Words.{add, slice, zext, complement}
+use Rattle.pdl_semantics.specs.Words.{add, slice, zext, complement}
 use Rattle.pdl_semantics.specs.Tree
 use Rattle.pdl_semantics.specs.Tree.{Queue, Bypass}
 use Rattle.pdl_semantics.specs.Flat.{Commit, of_mem, arrays_of}

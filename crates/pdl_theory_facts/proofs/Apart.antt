@@ -4,8 +4,8 @@ use Rattle.std.proofs.lemmas.Bool.{eqb-true}
 use Rattle.pdl_theory_derived.specs.Alone.{is_among, is_oldest, drop_var, but_last}
 use Rattle.pdl_theory_derived.proofs.Writes.{and_left, and_right}
 use Rattle.pdl_theory_facts.specs.Scans.{Phase, Fresh, after_write, after_reserve, after_release, may_write, is_new, next_phase, phase_ok, phases_ok, phase_all, no_guards, write_reserves}
-use Rattle.pdl_semantics.specs.Flat.{Op, Write, ReserveWrite, Release, Stmt}
-use Rattle.pdl_semantics.specs.Stages.{is_write_reserve}
+use Rattle.pdl_theory_derived.specs.semantics.Flat.{Op, Write, ReserveWrite, Release, Stmt}
+use Rattle.pdl_theory_derived.specs.semantics.Stages.{is_write_reserve}
 
 -- a location without a value is neither one with a value nor a released one
 abbrev pub Apart : Phase → Type 0

@@ -1,8 +1,8 @@
 -- Stages in branches and in branches inside these: what a way from one stage to another keeps.
 use Rattle.std.proofs.Common.{◌≡◌, refl, sym, ap, ap₂, ◌∙◌, subst, ℕ, ◌<◌, ◌⊎◌, inl, inr, Bool, true, false, ◌&&◌, ◌||◌, List, [], ◌∷◌, ◌++◌, ◌==◌, if◌then◌else◌, length, arith, append-nil, append_assoc, eq-eqb}
 use Rattle.std.proofs.lemmas.Bool.{eqb-true, ne_eqb}
-use Rattle.pdl_semantics.specs.Flat.{Pipe, Branch}
-use Rattle.pdl_semantics.specs.Stages.{list_any, stage_at, is_inside, sides_of}
+use Rattle.pdl_theory_derived.specs.semantics.Flat.{Pipe, Branch}
+use Rattle.pdl_theory_derived.specs.semantics.Stages.{list_any, stage_at, is_inside, sides_of}
 use Rattle.pdl_theory_facts.specs.Graphs.{Home, Within, Trunk, next_of, goes_by, Way, Branches}
 use Rattle.pdl_theory_facts.specs.Facts.{comes_by, visits_stage}
 use Rattle.pdl_theory_derived.proofs.Writes.{and_right}

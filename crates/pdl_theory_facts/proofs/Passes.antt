@@ -1,10 +1,10 @@
 -- A pipe that passes the tests has the facts of an accepted pipe.
 use Rattle.std.proofs.Common.{◌≡◌, refl, ap, ap₂, ◌∙◌, subst, ℕ, suc, ◌<◌, ◌≤◌, Bool, true, false, ◌&&◌, ◌||◌, not, List, [], ◌∷◌, ◌++◌, length, unwrap_or, Some, None, nat_lt, nat_le, ◌==◌, arith, ltb-true, ltb-false, leb-true, append-nil, cond, lt-ltb}
 use Rattle.std.proofs.lemmas.Bool.{eqb-true, ne_eqb}
-use Rattle.pdl_semantics.specs.Flat.{list_all, Stmt, Mem, Pipe}
-use Rattle.pdl_semantics.specs.Stages.{onpath, in_stage, mem_at, plain_mem, commit_stage, reserve_stage, is_reserve, is_release, verify_stage}
-use Rattle.pdl_semantics.specs.Locks.{has_room}
-use Rattle.pdl_semantics.specs.Sound.{all_below, stages_from, is_fetch}
+use Rattle.pdl_theory_derived.specs.semantics.Flat.{list_all, Stmt, Mem, Pipe}
+use Rattle.pdl_theory_derived.specs.semantics.Stages.{onpath, in_stage, mem_at, plain_mem, commit_stage, reserve_stage, is_reserve, is_release, verify_stage}
+use Rattle.pdl_theory_derived.specs.semantics.Locks.{has_room}
+use Rattle.pdl_theory_derived.specs.semantics.Sound.{all_below, stages_from, is_fetch}
 use Rattle.pdl_theory_derived.specs.Alone.{before}
 use Rattle.pdl_theory_facts.specs.Scans.{is_plain, none_of, all_at, reads_ok, no_scan, phases_ok, phase_all, Fresh, is_over, write_reserves, is_fixed}
 use Rattle.pdl_theory_facts.specs.GuessScans.{Unmade, makings_ok, making_all, is_made, checks_apart, is_update, once, all_sure}

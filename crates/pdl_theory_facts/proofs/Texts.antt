@@ -1,9 +1,9 @@
 -- What tests of statements tell: their order, what they make, which memories they know, and each path.
 use Rattle.std.proofs.Common.{◌≡◌, refl, sym, ap, ap₂, ◌∙◌, subst, ℕ, zero, suc, ◌<◌, ◌≤◌, Bool, true, false, ◌&&◌, ◌||◌, not, List, [], ◌∷◌, ◌++◌, length, Option, Some, None, is_none, nat_lt, ◌==◌, cond, arith, slice_index, slice_index_or, ltb-true, ltb-false, le-ltb, leb-true, le-leb}
 use Rattle.std.proofs.lemmas.Bool.{eqb-true, eqb-false, ne_eqb, lt-leb, and_from, or_left, or_right}
-use Rattle.pdl_semantics.specs.Flat.{list_all, takes_branch, all_hold, Op, CombRead, DelayedRead, Write, ReserveRead, ReserveWrite, Release, Stmt, Guard, Pipe}
-use Rattle.pdl_semantics.specs.Stages.{onpath, in_stage, is_reserve, is_release, is_verify, verify_stage}
-use Rattle.pdl_semantics.specs.Sound.{all_below, stages_from, is_fetch}
+use Rattle.pdl_theory_derived.specs.semantics.Flat.{list_all, takes_branch, all_hold, Op, CombRead, DelayedRead, Write, ReserveRead, ReserveWrite, Release, Stmt, Guard, Pipe}
+use Rattle.pdl_theory_derived.specs.semantics.Stages.{onpath, in_stage, is_reserve, is_release, is_verify, verify_stage}
+use Rattle.pdl_theory_derived.specs.semantics.Sound.{all_below, stages_from, is_fetch}
 use Rattle.pdl_theory_derived.specs.Alone.{before, answered_op}
 use Rattle.pdl_theory_facts.specs.Scans.{no_guards, none_of, all_at, Scan, scan_after, op_ok, reads_ok, Fresh, after_write, after_reserve, may_write, next_phase, phase_ok, phases_ok, phase_all}
 use Rattle.pdl_theory_facts.specs.Checks.{in_text_order, knows_memory, alike, agrees_with, without, choose, on_paths}

@@ -1,12 +1,12 @@
 -- What is taken of the text and the paths of an accepted pipe, with guards, calls, guesses, comb memories and any locks: facts that the rules of the language give.
 use Rattle.std.specs.Prelude.{◌≡◌, ℕ, suc, ◌<◌, true, false, List, [], ◌++◌, Some, length, None}
-use Rattle.pdl_semantics.specs.Flat.{Pipe}
-use Rattle.pdl_semantics.specs.Stages.{onpath, in_stage, mem_at, verify_stage, commit_stage, reserve_stage, is_reserve, is_release}
-use Rattle.pdl_semantics.specs.Locks.{has_room}
+use Rattle.pdl_theory_derived.specs.semantics.Flat.{Pipe}
+use Rattle.pdl_theory_derived.specs.semantics.Stages.{onpath, in_stage, mem_at, verify_stage, commit_stage, reserve_stage, is_reserve, is_release}
+use Rattle.pdl_theory_derived.specs.semantics.Locks.{has_room}
 use Rattle.pdl_theory_derived.specs.Alone.{before}
 use Rattle.pdl_theory_facts.specs.Scans.{is_plain, none_of, reads_ok, no_scan, phases_ok, phase_all, Fresh, is_over, write_reserves, all_at, is_fixed}
 use Rattle.pdl_theory_facts.specs.GuessScans.{Unmade, makings_ok, making_all, is_made, checks_apart, is_update, once, all_sure}
-use Rattle.pdl_semantics.specs.Sound.{stages_from}
+use Rattle.pdl_theory_derived.specs.semantics.Sound.{stages_from}
 
 -- of a pipe without guards: what holds of the statements of one path
 pub record Accepted (p : Pipe) : Type 0 where

@@ -1,17 +1,17 @@
 -- WHAT IS TAKEN OF AN ACCEPTED PIPE OF THE WHOLE LANGUAGE: facts that the rules of the language give, of its text, of its stage graph, and of the statements of each path.
 use Rattle.std.specs.Prelude.{◌≡◌, ℕ, suc, ◌≤◌, ◌<◌, Bool, true, false, ◌&&◌, ◌||◌, not, List, [], ◌∷◌, Some, ◌==◌, length, nat_lt, nat_le, slice_index}
-use Rattle.pdl_semantics.specs.Flat.{list_all, Op, Bind, CombRead, DelayedRead, Write, ReserveRead, ReserveWrite, Block, Release, Call, SpecCall, Verify, SpecCheck, SpecBarrier, AdviceBind, AdviceRead, AdviceWrite, Expr, Constant, Variable, Slice, Not, Binary, Cat, LessSigned, ZeroExtend, SignExtend, Choose, Guard, Stmt, Forks, Branch, Pipe}
-use Rattle.pdl_semantics.specs.Forms.{on_delayed_read}
-use Rattle.pdl_semantics.specs.Stages.{is_inside, is_reserve, is_verify, onpath, in_stage, stage_at, mem_at, verify_stage, commit_stage, reserve_stage}
-pub use Rattle.pdl_semantics.specs.Locks.{is_exact}
+use Rattle.pdl_theory_derived.specs.semantics.Flat.{list_all, Op, Bind, CombRead, DelayedRead, Write, ReserveRead, ReserveWrite, Block, Release, Call, SpecCall, Verify, SpecCheck, SpecBarrier, AdviceBind, AdviceRead, AdviceWrite, Expr, Constant, Variable, Slice, Not, Binary, Cat, LessSigned, ZeroExtend, SignExtend, Choose, Guard, Stmt, Forks, Branch, Pipe}
+use Rattle.pdl_theory_derived.specs.semantics.Forms.{on_delayed_read}
+use Rattle.pdl_theory_derived.specs.semantics.Stages.{is_inside, is_reserve, is_verify, onpath, in_stage, stage_at, mem_at, verify_stage, commit_stage, reserve_stage}
+pub use Rattle.pdl_theory_derived.specs.semantics.Locks.{is_exact}
 use Rattle.pdl_theory_derived.specs.Alone.{before, answered_op}
 use Rattle.pdl_theory_facts.specs.Scans.{none_of, all_at, binds_var}
 pub use Rattle.pdl_theory_facts.specs.Scans.{against, is_dead}
-use Rattle.pdl_semantics.specs.Cycle.{merges_by}
+use Rattle.pdl_theory_derived.specs.semantics.Cycle.{merges_by}
 use Rattle.pdl_theory_facts.specs.Graphs.{Trunk, next_of, Graph, Home, Branches, goes_by}
-use Rattle.pdl_semantics.specs.Promises.{KeepsAdvice}
+use Rattle.pdl_theory_derived.specs.semantics.Promises.{KeepsAdvice}
 use Rattle.pdl_theory_facts.specs.Accepted.{Pathwise}
-use Rattle.pdl_semantics.specs.Sound.{stages_from, is_fetch}
+use Rattle.pdl_theory_derived.specs.semantics.Sound.{stages_from, is_fetch}
 
 -- USES OF A VARIABLE
 

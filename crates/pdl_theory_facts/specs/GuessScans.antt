@@ -1,9 +1,9 @@
 -- Facts of an accepted pipe on guesses: scans over the statements of one path that tell who makes the next thread, and that nothing is released before it is certain.
 use Rattle.std.specs.Prelude.{ℕ, Bool, true, false, ◌&&◌, ◌||◌, not, List, [], ◌∷◌, Option, Some, None, ◌==◌, nat_lt}
-use Rattle.pdl_semantics.specs.Flat.{Op, Bind, CombRead, DelayedRead, Write, ReserveRead, ReserveWrite, Block, Release, Call, SpecCall, Verify, SpecCheck, SpecBarrier, AdviceBind, AdviceRead, AdviceWrite, Stmt}
-use Rattle.pdl_semantics.specs.Forms.{on_release}
-pub use Rattle.pdl_semantics.specs.Sound.{is_barrier}
-pub use Rattle.pdl_semantics.specs.Updates.{is_update}
+use Rattle.pdl_theory_derived.specs.semantics.Flat.{Op, Bind, CombRead, DelayedRead, Write, ReserveRead, ReserveWrite, Block, Release, Call, SpecCall, Verify, SpecCheck, SpecBarrier, AdviceBind, AdviceRead, AdviceWrite, Stmt}
+use Rattle.pdl_theory_derived.specs.semantics.Forms.{on_release}
+pub use Rattle.pdl_theory_derived.specs.semantics.Sound.{is_barrier}
+pub use Rattle.pdl_theory_derived.specs.semantics.Updates.{is_update}
 use Rattle.pdl_theory_facts.specs.Scans.{has_location, scan_after, Scan}
 
 -- whether a stage is V

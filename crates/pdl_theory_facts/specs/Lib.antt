@@ -5,3 +5,4 @@ pub mod Facts
 pub mod SoundChecks
 pub mod Accepted
 pub mod Checks
+pub use Rattle.pdl_theory_derived.specs.Alone

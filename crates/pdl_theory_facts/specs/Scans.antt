@@ -1,12 +1,12 @@
 -- Scans over the statements of one path, and over a text, that tell whether locks and values are used as the rules of the language say.
 use Rattle.std.specs.Prelude.{ℕ, Bool, true, false, ◌&&◌, ◌||◌, not, List, [], ◌∷◌, if◌then◌else◌, ◌==◌, nat_le}
-use Rattle.pdl_semantics.specs.Flat.{Op, Bind, CombRead, DelayedRead, Write, ReserveRead, ReserveWrite, Block, Release, Call, SpecCall, Verify, SpecCheck, SpecBarrier, AdviceBind, AdviceRead, AdviceWrite, Stmt, Guard, Pipe}
-use Rattle.pdl_semantics.specs.Forms.{on_binding}
-use Rattle.pdl_semantics.specs.Stages.{mem_at, commit_stage, reserve_stage}
-pub use Rattle.pdl_semantics.specs.Locks.{is_plain}
-pub use Rattle.pdl_semantics.specs.SecondWrites.{write_reserves}
+use Rattle.pdl_theory_derived.specs.semantics.Flat.{Op, Bind, CombRead, DelayedRead, Write, ReserveRead, ReserveWrite, Block, Release, Call, SpecCall, Verify, SpecCheck, SpecBarrier, AdviceBind, AdviceRead, AdviceWrite, Stmt, Guard, Pipe}
+use Rattle.pdl_theory_derived.specs.semantics.Forms.{on_binding}
+use Rattle.pdl_theory_derived.specs.semantics.Stages.{mem_at, commit_stage, reserve_stage}
+pub use Rattle.pdl_theory_derived.specs.semantics.Locks.{is_plain}
+pub use Rattle.pdl_theory_derived.specs.semantics.SecondWrites.{write_reserves}
 use Rattle.pdl_theory_derived.specs.Alone.{Location, is_nil, is_among, is_oldest, drop_var, but_last}
-use Rattle.pdl_semantics.specs.Sound.{is_call}
+use Rattle.pdl_theory_derived.specs.semantics.Sound.{is_call}
 
 -- whether there is no guard
 abbrev pub no_guards : List Guard → Bool

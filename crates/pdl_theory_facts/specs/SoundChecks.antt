@@ -1,13 +1,13 @@
 -- The facts of an accepted pipe of the whole language, as tests that compute.
 use Rattle.std.specs.Prelude.{ℕ, suc, Bool, true, false, ◌&&◌, ◌||◌, not, List, [], ◌∷◌, ◌++◌, Option, Some, None, if◌then◌else◌, nat_lt, nat_le, ◌==◌, length, slice_set}
-use Rattle.pdl_semantics.specs.Flat.{list_all, Op, Guard, Stmt, Next, Ends, Goes, Forks, Branch, Pipe, all_hold, start_env}
-use Rattle.pdl_semantics.specs.Forms.{on_delayed_read}
-use Rattle.pdl_semantics.specs.Stages.{onpath, in_stage, stage_at, is_inside, mem_at, commit_stage, reserve_stage, verify_stage, is_verify, fork_guards}
-use Rattle.pdl_semantics.specs.Promises.{fits_kind}
-use Rattle.pdl_semantics.specs.Sound.{all_below, stages_from, is_fetch, is_delayed_read}
+use Rattle.pdl_theory_derived.specs.semantics.Flat.{list_all, Op, Guard, Stmt, Next, Ends, Goes, Forks, Branch, Pipe, all_hold, start_env}
+use Rattle.pdl_theory_derived.specs.semantics.Forms.{on_delayed_read}
+use Rattle.pdl_theory_derived.specs.semantics.Stages.{onpath, in_stage, stage_at, is_inside, mem_at, commit_stage, reserve_stage, verify_stage, is_verify, fork_guards}
+use Rattle.pdl_theory_derived.specs.semantics.Promises.{fits_kind}
+use Rattle.pdl_theory_derived.specs.semantics.Sound.{all_below, stages_from, is_fetch, is_delayed_read}
 use Rattle.pdl_theory_derived.specs.Alone.{before}
 use Rattle.pdl_theory_facts.specs.Scans.{none_of, all_at, binds_var}
-use Rattle.pdl_semantics.specs.Cycle.{merges_by}
+use Rattle.pdl_theory_derived.specs.semantics.Cycle.{merges_by}
 use Rattle.pdl_theory_facts.specs.Graphs.{next_of}
 use Rattle.pdl_theory_facts.specs.Facts.{trunk_only, is_dead, late_for, is_unseen, fetch_apart, is_exact, is_fetch_of, visits_stage, at_once}
 use Rattle.pdl_theory_facts.specs.Checks.{guard_vars, paths_pass}

@@ -29,3 +29,4 @@ pub mod FlowScans
 pub mod CarriedTheorems
 pub mod RuleFacts
 pub mod AcceptedFacts
+pub use Rattle.pdl_theory_turns.proofs as theory_turns

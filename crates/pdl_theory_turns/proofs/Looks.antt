@@ -7,7 +7,7 @@ use Rattle.pdl_semantics.specs.Flat.{Op, Bind, CombRead, DelayedRead, Write, Res
 use Rattle.pdl_semantics.specs.Stages.{onpath, in_stage}
 use Rattle.pdl_semantics.specs.Machine.{Ask, same_args}
 use Rattle.pdl_semantics.specs.Sequential.{Run, run_after, run_all}
-use Rattle.pdl_word.specs.Words
+use Rattle.pdl_semantics.specs.Words
 use Rattle.pdl_theory_derived.specs.Derived.{Work, Around, work_after, do_all, with_entry_value, said}
 use Rattle.pdl_theory_derived.specs.Alone.{World, alone, before, answered_op}
 use Rattle.pdl_theory_facts.specs.Facts.{uses_in, uses_any, mentions_var, asks_for, is_dead, silent_on, unseen_op, is_unseen, looked_all}
@@ -16,7 +16,7 @@ use Rattle.pdl_theory_derived.proofs.Stages.{step, joined, do_all_joined, or_els
 use Rattle.pdl_theory_turns.proofs.Paths.{Fixed}
 pub use Rattle.pdl_theory_turns.proofs.Paths.{dead_none}
 use Rattle.pdl_theory_derived.proofs.DelayedReads.{caught, caught_set, AllAsks, all_snoc}
-use Rattle.pdl_word.proofs.Bools.{by_or}
+use Rattle.pdl_semantics.proofs.Bools.{by_or}
 use Rattle.pdl_semantics.specs.Sound.{is_fetch}
 
 not_or : (a b : Bool) → not (a || b) ≡ true → (not a ≡ true) × (not b ≡ true)

@@ -12,7 +12,7 @@ use Rattle.pdl_theory_facts.specs.Accepted.{Pathwise, along}
 use Rattle.pdl_theory_derived.proofs.Stages.{reset}
 use Rattle.pdl_theory_turns.proofs.TurnPath.{start_run, run_at, run_append, ok_before, start_related}
 use Rattle.pdl_theory_turns.proofs.Guesses.{same_args_refl, unchecked_from, making_append, makings_first, makings_second, no_guess, unverified_made, settled, unfailed, run_settled, Calls, calls_all, Changed, changed_all}
-use Rattle.pdl_word.proofs.Bools.{by_bool}
+use Rattle.pdl_semantics.proofs.Bools.{by_bool}
 use Rattle.pdl_semantics.specs.Sound.{stages_from}
 
 made_is : (k : Making) → is_made k ≡ true → k ≡ Made

@@ -14,7 +14,7 @@ use Rattle.pdl_theory_derived.proofs.Stages.{step, does_same, was_ready}
 use Rattle.pdl_theory_turns.proofs.Surroundings.{Surrounds, Right, AllIn, Covers, covers_op, right_set, right_at, reads_right, right_after}
 use Rattle.pdl_theory_derived.proofs.DelayedReads.{caught, AllAsks, all_more, all_snoc}
 use Rattle.pdl_theory_turns.proofs.Looks.{look, keeps_clear, dead_none}
-use Rattle.pdl_word.proofs.Bools.{by_bool}
+use Rattle.pdl_semantics.proofs.Bools.{by_bool}
 use Rattle.pdl_semantics.specs.Sound.{is_fetch}
 
 -- what is known of a request that was made before these statements

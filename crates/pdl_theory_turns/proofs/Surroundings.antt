@@ -10,7 +10,7 @@ use Rattle.pdl_theory_derived.specs.Alone.{World, Location}
 use Rattle.pdl_theory_derived.proofs.Writes.{and_left, and_right}
 use Rattle.pdl_theory_derived.proofs.Stages.{ReadsRight}
 use Rattle.pdl_theory_facts.specs.Scans.{no_guards, is_plain, is_address, has_location, scan_after, scan_after_all, op_ok, reads_ok, Scan, location}
-use Rattle.pdl_word.proofs.Bools.{or_map}
+use Rattle.pdl_semantics.proofs.Bools.{or_map}
 
 -- what the surroundings of a thread in stage s give where they are right for its turn; clean is what makes a location read right
 pub record Surrounds (p : Pipe) (o : Around) (world : World) (s : ℕ) (clean : ℕ → ℕ → Type 0) : Type 0 where

@@ -67,6 +67,13 @@ def with_contents(text, image, folder):
     return text.replace("endmodule", "".join(loads) + "endmodule")
 
 
+def place(folder, seed, name="seed"):
+    """Places and routes the cells that Yosys left of a core as NAME.asc, and gives what nextpnr says, which NAME.log has."""
+    run(["nextpnr-ice40", "--hx8k", "--package", "ct256", "--json", "top.json", "--pcf", HERE / "hx8k.pcf",
+         "--asc", name + ".asc", "--freq", "12", "--seed", str(seed)], folder, name + ".log")
+    return (folder / (name + ".log")).read_text()
+
+
 def make(pdl, core, image, lamps, folder, change=lambda text: text):
     """Makes the bitstream of a core, whose source may be changed first, and says what it takes."""
     write_core(core, folder, change)
@@ -74,14 +81,12 @@ def make(pdl, core, image, lamps, folder, change=lambda text: text):
     (folder / "core.v").write_text(with_contents(text, image, folder))
     module = re.search(r"^module (\w+)\(", text, re.M)[1]
     (folder / "top.v").write_text((HERE / WRAPPERS[core]).read_text().replace("pdl_rv32i ", module + " "))
-    synthesis = ("read_verilog top.v core.v; chparam -set LAMPS %d top; synth_ice40 -top top -json top.json; "
+    synthesis = ("read_verilog top.v core.v; chparam -set LAMPS %d top; synth_ice40 -abc9 -device hx -top top -json top.json; "
                  "write_verilog -noattr netlist.v; tee -o cells.txt stat" % lamps)
     run(["yosys", "-p", synthesis], folder, "yosys.log")
-    run(["nextpnr-ice40", "--hx8k", "--package", "ct256", "--json", "top.json", "--pcf", HERE / "hx8k.pcf",
-         "--asc", "top.asc", "--freq", "12", "--seed", "1"], folder, "nextpnr.log")
+    log = place(folder, 1, "top")
     run(["icepack", "top.asc", "top.bin"], folder)
     run(["icetime", "-d", "hx8k", "-m", "-r", "icetime.txt", "top.asc"], folder, "icetime.log")
-    log = (folder / "nextpnr.log").read_text()
     return "\n".join([
         (folder / "cells.txt").read_text(),
         *re.findall(r"Info:\s+((?:ICESTORM_(?:LC|RAM)|SB_\w+):.*)", log),

@@ -6,10 +6,10 @@ use Rattle.pdl_syntax_tree.specs.declared.tree.Pipe as r_pipe
 use Rattle.pdl_syntax_tree.specs.View.{pipe_view}
 use Rattle.pdl_rules.specs.Refusal.{KeepsRules, limits, after_limits}
 use Rattle.pdl_locks.specs.Plan.{plan_of}
-use Rattle.pdl_spec.specs.Plan.{spec_plan}
+use Rattle.pdl_rules_judge.specs.Plan.{spec_plan}
 use Rattle.pdl_source_paths.specs.Source.{is_source, is_named}
 use Rattle.pdl_rules.proofs.Unbroken.{keeps_unbroken}
-use Rattle.pdl_rules_names.specs.Order.{name_rules}
+use Rattle.pdl_rules_judge.specs.NameOrder.{name_rules}
 use Rattle.pdl_rules_widths.specs.Order.{width_rules}
 use Rattle.pdl_rules_judge.specs.OrderedRules.{after_names, after_widths}
 use Rattle.pdl_form.specs.Form.{form_of}

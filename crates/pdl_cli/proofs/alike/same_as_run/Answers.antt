@@ -2,4 +2,4 @@ use Rattle.pdl_cli.proofs.SameRun.{same_run}
 use Rattle.pdl_cli.proofs.alike.same_as_run.Goals as goal
 
 pub returns : goal.returns
-returns c = same_run
+returns c = λ source text netlist source_name image' cycles delays b. same_run source text netlist source_name image' cycles delays b

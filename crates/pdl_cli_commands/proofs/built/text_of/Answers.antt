@@ -15,6 +15,6 @@ pub returns : goal.returns
 returns c =
     let n = c.in_ok-netlist in
     both_ok c.verilog_text-text.result _ _ _
-    (λ t text reads holds source b given accepted. is_built holds source b
-    (pipe_view c.args.accepted.now.typed.pipe) n.netlist given accepted n.ensures.follows t.items n.ensures.locks text reads)
+    (λ t text reads source accepted. is_built source
+    (pipe_view c.args.accepted.now.typed.pipe) n.netlist accepted n.ensures.follows t.items n.ensures.locks text reads)
     c.verilog_text-text.ensures.text c.verilog_text-text.ensures.reads

@@ -1,5 +1,10 @@
+use Rattle.std.proofs.Common.{◌∷◌, refl}
 use Rattle.pdl_syntax_tree.specs.View.{pipe_view}
+use Rattle.pdl_cli_args.specs.Line.{run}
+use Rattle.pdl_cli_args.specs.View.{text_of}
+use Rattle.pdl_cli_commands.specs.Reading.{listed}
 use Rattle.pdl_cli_commands.proofs.ToldMemories.{net_names_short}
+use Rattle.pdl_cli_commands.proofs.Explanations.{out_of_memory}
 use Rattle.pdl_cli_commands.proofs.run.run_accepted.Goals as goal
 
 pub run_netlist-requires-clause-well : goal.run_netlist-requires-clause-well
@@ -10,5 +15,13 @@ run_netlist-requires-clause-short g c =
     net_names_short c.requires.accepted.0 (pipe_view c.args.accepted.now.typed.pipe) c.in-Ok.netlist c.requires.accepted.1.text c.in-Ok.ensures.follows
 
 pub returns-in-Ok-clause-explained : goal.returns-in-Ok-clause-explained
-returns-in-Ok-clause-explained g c = λ source b given taken.
-    c.run_netlist.ensures.source source b (pipe_view c.args.accepted.now.typed.pipe) given taken c.in-Ok.ensures.follows
+returns-in-Ok-clause-explained g c = λ source b taken.
+    c.run_netlist.ensures.source source b (pipe_view c.args.accepted.now.typed.pipe) taken c.in-Ok.ensures.follows
+
+pub returns-in-Err-clause-explained : goal.returns-in-Err-clause-explained
+returns-in-Err-clause-explained g c = λ source b taken.
+    let image' = c.args.image.now in
+    let delays = text_of c.args.delays in
+    out_of_memory (run source image' c.args.cycles delays) source b (image' ∷ listed delays) refl (g.F.Files.answers c.args.files.now)
+    (g.F.Files.faults c.args.files.now) (g.F.Files.faults c.args.files.now) (g.O.Sink.written c.args.out.now)
+    (g.O.Sink.faults c.args.out.now) (g.O.Sink.faults c.args.out.now)

@@ -1,28 +1,25 @@
-use Rattle.std.proofs.Common.{sym, ◌∙◌}
+use Rattle.std.proofs.Common.{◌≡◌, ap, ◌∙◌}
 use Rattle.pdl_net.specs.declared.Net.TheVariants.{Reg}
-use Rattle.pdl_net.specs.Growth.{Extends}
-use Rattle.pdl_net.proofs.Keeps.{extends_trans}
+use Rattle.pdl_net.specs.Signal.{reg_signal}
+use Rattle.pdl_net.specs.Meaning.{signal}
+use Rattle.pdl_net.proofs.Keeps.{extends_keeps}
 use Rattle.pdl_lockapi.specs.Laws.{step_signals}
+use Rattle.pdl_lockapi.proofs.LockGrowth.{same_signals}
 use Rattle.pdl_lock_ring.specs.Slots.{addr_at}
-use Rattle.pdl_lock_ring.proofs.RingGrowth.{means_as, same_mux, later_is}
-use Rattle.pdl_lock_ring.proofs.Fills.{slot_addr_is}
+use Rattle.pdl_lock_ring.proofs.RingGrowth.{means_as}
+use Rattle.pdl_lock_ring.proofs.Fills.{same_reserved}
 use Rattle.pdl_lock_ring.proofs.fill.emit_addr.Goals as goal
 
 pub returns-clause-means : goal.returns-clause-means
 returns-clause-means c =
     let a = c.args.b.now in
-    let b1 = c.emit_takes.new.b in
-    let b2 = c.mux.new.self in
+    let b1 = c.emit_number.new.b in
     let l = c.args.l in
     let k = c.args.k in
-    let f = step_signals a c.args.p.now in
-    let r = c.requires.ready in
-    let x1 = c.in_ok-first.ensures.extends in
-    let x2 = c.in_ok-kept.ensures.extends in
-    let x12 : Extends a b2 = extends_trans a b1 b2 x1 x2 in
-    let e = r.given.slots in
-    let old = x1.kept (Reg (addr_at l k)) (e.addr_there k c.requires.slot_in) ∙ e.addr k c.requires.slot_in in
-    let kept = c.in_ok-kept.ensures.means.same ∙ same_mux _ _ _ _ _ _ c.in_ok-first.ensures.first.same (later_is a b1 c.args.t.first _ x1 r.first) old in
-    means_as c.mux-2.new.self _ _ _ c.in_ok-addr.ensures.means
-    (same_mux _ _ _ _ _ _ (later_is b1 b2 _ _ x2 c.in_ok-first.ensures.second) (later_is a b2 c.args.t.second _ x12 r.second) kept
-    ∙ sym (slot_addr_is l f k))
+    let p = c.args.p.now in
+    let x = c.in_ok-slot.ensures.extends in
+    let e = c.requires.ready.given.slots in
+    let s : step_signals b1 p ≡ step_signals a p = same_signals a b1 p c.requires.ready.given.ports (extends_keeps a b1 x) in
+    let old : signal b1 (Reg (addr_at l k)) ≡ reg_signal l.bits (addr_at l k) =
+    x.kept (Reg (addr_at l k)) (e.addr_there k c.requires.slot_in) ∙ e.addr k c.requires.slot_in in
+    means_as c.emit_reserved.new.b c.in_ok-addr.addr _ _ c.in_ok-addr.ensures.means (same_reserved l _ _ _ _ _ _ s old c.in_ok-slot.ensures.means.same)

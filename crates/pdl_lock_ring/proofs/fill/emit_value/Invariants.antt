@@ -9,5 +9,5 @@ abbrev pub invariant-loop-j : goal.invariant-loop-j
 invariant-loop-j l = record {
   extends : Extends l.fn.b l.b;
   value_width : (signal l.b l.value).width ≡ l.l.width;
-  value : Means l.b l.value (filled_value l.l (step_signals l.fn.b l.p) (signal l.fn.b l.fn.before) l.k l.j);
+  value : Means l.b l.value (filled_value l.l (step_signals l.fn.b l.p) (signal l.fn.b l.fn.before) (signal l.fn.b l.fn.slot) l.j);
 }

@@ -10,11 +10,12 @@ use Rattle.pdl_pipe_beside.proofs.PortSteps.{ports_stand}
 use Rattle.pdl_pipe_beside.proofs.OrderSteps.{orders_stand, squashes_keep}
 use Rattle.pdl_pipe_nexts.specs.Lines.{line_form, line_pipe}
 use Rattle.pdl_pipe_nexts.proofs.LineGrowth.{line_keep}
-use Rattle.pdl_pipe_moves.proofs.GateParts.{bit_keep}
+use Rattle.pdl_pipe_emitted.proofs.pipe_moves.GateParts.{bit_keep}
 use Rattle.pdl_pipe_outputs.specs.ToldOutputs.{AreTold, AreCommits, AreAsked, OutsThere, ShowAll, output_of}
 use Rattle.pdl_pipe_outputs.proofs.RequestPorts.{are_asked}
 use Rattle.pdl_pipe_emitted.specs.Emitted.{AreEndsOf, Emission, Nets}
-use Rattle.pdl_pipe.specs.Emitted.{AreShownOf}
+use Rattle.pdl_pipe.specs.Emitted.{AreShownOf, IsEmitted}
+use Rattle.pdl_pipe.proofs.MadeNames.{named_emitted}
 use Rattle.pdl_pipe.proofs.DeedNets.{ends_there}
 use Rattle.pdl_pipe.proofs.KeptSteps.{next_kept, unwritten_kept, apart_from, steps_keep}
 use Rattle.pdl_pipe_beside.specs.Requests.{AreRequests}
@@ -245,6 +246,30 @@ show-requires g c =
     } in
     record { there = subst (OutsThere i) (sym c.as_slice-6.ensures) (c.in_ok-outs.ensures.there i told) }
 
+pub names_of-requires-clause-line : goal.names_of-requires-clause-line
+names_of-requires-clause-line g c =
+    let b = c.args.b.now in
+    let x = c.args.line.now in
+    let moved = c.requires.moved in
+    let a = moved.a in
+    let high = moved.layout.2 in
+    let layout = moved.layout.3 in
+    let l = members g.L.LockModule in
+    let y = c.args.moves.now in
+    let r = c.requests.new.b in
+    let br = extends_keeps b r c.requests.ensures.extends in
+    let ar = keeps_trans a b r (extends_keeps a b moved.to_moves) br in
+    let n = regs_grow a r ar in
+    let i = c.set_registers.new.b in
+    let ri =
+    steps_keep l r i x c.args.locks.now c.args.orders.now c.as_slice-2.result.now y.squash y.squashes c.in_ok-steps.steps.tails c.in_ok-steps.steps.commits.items
+    (apart_from high (length a.regs) (length r.regs) x.stages.now n layout.apart 0 (omega arith)) c.in_ok-steps.ensures in
+    let bd = keeps_trans b i c.show.new.b (keeps_trans b r i br ri) (ports_keeps i c.show.new.b _ c.in_ok-show.ensures.ports) in
+    line_keep b c.show.new.b x bd c.requires.line
+
+pub names_of-requires-clause-reserves : goal.names_of-requires-clause-reserves
+names_of-requires-clause-reserves g c = c.requires.can.reserves
+
 pub returns : goal.returns
 returns g c =
     let b = c.args.b.now in
@@ -344,6 +369,7 @@ returns g c =
       writes = λ k has. ports.writes k has;
       shapes = ports.shapes;
     } in
+    let emitted : IsEmitted l d (line_form x) =
     record {
       nets = nets;
       emission = emission;
@@ -358,4 +384,5 @@ returns g c =
           (subst
           (λ rs. ShowAll i (line_form x) c.as_slice-3.result.now y.squash c.as_slice-4.result.now rs outs) c.as_slice-5.ensures.value
           (c.in_ok-outs.ensures.shown i told));
-    }
+    } in
+    named_emitted l d (line_form x) emitted c.names_of.result c.names_of.ensures

@@ -7,7 +7,8 @@ use Rattle.pdl_pipe_locks.specs.Suited.{AreSuited}
 use Rattle.pdl_pipe_emitted.specs.Emitted.{CanEmit}
 use Rattle.pdl_pipe_emitted.proofs.Emittable.{can_emit}
 use Rattle.pdl_pipe.proofs.MadeMemories.{mems_as}
-use Rattle.pdl_pipe.proofs.MadeNetlist.{emitted_as, follows_made, locks_made}
+use Rattle.pdl_pipe.proofs.MadeNetlist.{follows_made, locks_made, names_made}
+use Rattle.pdl_pipe.proofs.MadeNames.{named_as}
 use Rattle.pdl_pipe.proofs.netlist.compile_with.Goals as goal
 
 pub emit_all-requires-clause-can : goal.emit_all-requires-clause-can
@@ -27,8 +28,8 @@ returns-clause-follows g c =
     let n = c.finish.result in
     let done = c.finish.ensures in
     let name : n.name ≡ p.name.name = search rules in
-    follows_made l g.met.L.LockModule.stays p n
-    (emitted_as l c.emit_all.new.b (circuit_of n) _ (form_of p) (sym done.value) c.flat.ensures c.in_ok-emit_all.ensures)
+    let named = named_as l c.emit_all.new.b (circuit_of n) _ (form_of p) c.in_ok-names.names.items (sym done.value) c.flat.ensures c.in_ok-names.ensures in
+    follows_made l g.met.L.LockModule.stays p n named.emitted
     name (mems_as p.mems _ _ _ done.mems c.in_ok-mems.ensures c.mems.ensures) done.well a.kept a.source a.letters
 
 pub returns-clause-locks : goal.returns-clause-locks
@@ -39,6 +40,18 @@ returns-clause-locks g c =
     let n = c.finish.result in
     let done = c.finish.ensures in
     let name : n.name ≡ p.name.name = search rules in
-    locks_made l g.met.L.LockModule.stays p n
-    (emitted_as l c.emit_all.new.b (circuit_of n) _ (form_of p) (sym done.value) c.flat.ensures c.in_ok-emit_all.ensures)
+    let named = named_as l c.emit_all.new.b (circuit_of n) _ (form_of p) c.in_ok-names.names.items (sym done.value) c.flat.ensures c.in_ok-names.ensures in
+    locks_made l g.met.L.LockModule.stays p n named.emitted
     name (mems_as p.mems _ _ _ done.mems c.in_ok-mems.ensures c.mems.ensures) done.well a.kept a.source a.letters
+
+pub returns-clause-names : goal.returns-clause-names
+returns-clause-names g c =
+    let a = c.args.accepted.now in
+    let p = pipe_view a.typed.pipe in
+    let l = members g.L.LockModule in
+    let n = c.finish.result in
+    let done = c.finish.ensures in
+    let name : n.name ≡ p.name.name = search rules in
+    let named = named_as l c.emit_all.new.b (circuit_of n) _ (form_of p) c.in_ok-names.names.items (sym done.value) c.flat.ensures c.in_ok-names.ensures in
+    names_made l g.met.L.LockModule.stays p n named.emitted
+    name (mems_as p.mems _ _ _ done.mems c.in_ok-mems.ensures c.mems.ensures) done.well a.kept a.source a.letters c.in_ok-names.names.items named.named

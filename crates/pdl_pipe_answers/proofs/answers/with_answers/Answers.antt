@@ -4,7 +4,7 @@ use Rattle.pdl_form.specs.FormView.{form}
 use Rattle.pdl_form.specs.View.{mem_view}
 use Rattle.pdl_net.specs.Meaning.{signal}
 use Rattle.pdl_net.proofs.Keeps.{extends_keeps, extends_trans}
-use Rattle.pdl_machine_inflight.specs.Readings.{reading}
+use Rattle.pdl_law_sides.specs.Readings.{reading}
 use Rattle.pdl_law_sides.specs.Sides.{memory_answer}
 use Rattle.pdl_pipe_answers.specs.Ports.{answers_in}
 use Rattle.pdl_pipe_answers.proofs.PortAnswers.{answer_more, memory_same}

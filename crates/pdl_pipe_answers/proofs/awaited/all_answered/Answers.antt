@@ -5,8 +5,8 @@ use Rattle.pdl_form.specs.View.{mem_view}
 use Rattle.pdl_net.specs.Meaning.{signal}
 use Rattle.pdl_net.specs.Signal.{Signal}
 use Rattle.pdl_net.proofs.Keeps.{extends_keeps, extends_trans}
-use Rattle.pdl_law_parts.specs.Walk.{is_on}
-use Rattle.pdl_machine_inflight.specs.Readings.{reading}
+use Rattle.pdl_law_sides.specs.Walk.{is_on}
+use Rattle.pdl_law_sides.specs.Readings.{reading}
 use Rattle.pdl_law_sides.specs.Sides.{memory_answered, all_answered}
 use Rattle.pdl_pipe_answers.specs.Ports.{answers_in}
 use Rattle.pdl_pipe_answers.proofs.Bits.{both_as, memory_answered_same, answered_more}

@@ -1,7 +1,7 @@
 use Rattle.std.proofs.Common.{refl, sym, ap, ◌∙◌}
 use Rattle.pdl_net.specs.Meaning.{signal}
 use Rattle.pdl_net.specs.Signal.{Signal}
-use Rattle.pdl_law_parts.specs.Walk.{both, is_on}
+use Rattle.pdl_law_sides.specs.Walk.{both, is_on}
 use Rattle.pdl_pipe_answers.proofs.Bits.{both_one, one_both}
 use Rattle.pdl_pipe_answers.proofs.awaited.both_bits.Goals as goal
 

@@ -3,9 +3,9 @@ use Rattle.pdl_form.specs.View.{next_view}
 use Rattle.pdl_net.specs.Meaning.{signal}
 use Rattle.pdl_net.specs.Signal.{Signal}
 use Rattle.pdl_net.proofs.Keeps.{extends_keeps}
-use Rattle.pdl_law_parts.specs.Walk.{one, is_on}
+use Rattle.pdl_law_sides.specs.Walk.{one, is_on}
 use Rattle.pdl_port.specs.Laws.{AnswerSignals, answer_signals}
-use Rattle.pdl_machine_inflight.specs.Readings.{places_of}
+use Rattle.pdl_law_sides.specs.Readings.{places_of}
 use Rattle.pdl_law_sides.specs.Sides.{place_answered}
 use Rattle.pdl_pipe_answers.specs.Ports.{answered_where}
 use Rattle.pdl_pipe_answers.proofs.PortAnswers.{at_place}

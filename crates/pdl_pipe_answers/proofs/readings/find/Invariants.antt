@@ -1,6 +1,6 @@
 use Rattle.std.proofs.Common.{◌≡◌, drop}
 use Rattle.pdl_form.specs.View.{stmts_view}
-use Rattle.pdl_machine_inflight.specs.Readings.{reading_in}
+use Rattle.pdl_law_sides.specs.Readings.{reading_in}
 use Rattle.pdl_pipe_answers.proofs.readings.find.Given as goal
 
 -- the first statements don't read it

@@ -9,7 +9,7 @@ use Rattle.pdl_law_parts.specs.Walk.{both}
 use Rattle.pdl_law_parts.specs.Views.{View, way_on}
 use Rattle.pdl_law_sides.specs.Sides.{barrier_open}
 use Rattle.pdl_pipe_walk.specs.Parts.{ask_in}
-use Rattle.pdl_pipe_registers.proofs.Lists.{view_at}
+use Rattle.pdl_pipe_nexts.proofs.pipe_registers.Lists.{view_at}
 use Rattle.pdl_pipe_nexts.specs.Lines.{line_form, line_pipe, line_views}
 use Rattle.pdl_pipe_nexts.proofs.LineGrowth.{bits_there, bit_one}
 use Rattle.pdl_word.specs.Each.{Each}

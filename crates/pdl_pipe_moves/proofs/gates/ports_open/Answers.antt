@@ -9,7 +9,7 @@ use Rattle.pdl_pipe_exprs.proofs.NetLists.{there_keeps, signals_keep}
 use Rattle.pdl_law_parts.specs.Walk.{both, if_on, is_on}
 use Rattle.pdl_pipe_walk.specs.declared.nets.AskNet.{AskNet}
 use Rattle.pdl_pipe_walk.specs.Parts.{ask_in}
-use Rattle.pdl_pipe_registers.proofs.Lists.{each_at}
+use Rattle.pdl_pipe_nexts.proofs.pipe_registers.Lists.{each_at}
 use Rattle.pdl_pipe_nexts.proofs.LineGrowth.{bits_there, bit_one}
 use Rattle.pdl_pipe_answers.proofs.Bits.{both_as}
 use Rattle.pdl_pipe_moves.specs.Gates.{opens_by, IsAsked}

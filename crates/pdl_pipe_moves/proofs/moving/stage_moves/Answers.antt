@@ -7,7 +7,7 @@ use Rattle.pdl_net.proofs.Keeps.{extends_trans}
 use Rattle.pdl_law_parts.specs.Walk.{both, is_on}
 use Rattle.pdl_law_parts.specs.Views.{View, free, way_on}
 use Rattle.pdl_pipe_answers.proofs.Bits.{both_as}
-use Rattle.pdl_pipe_registers.proofs.Lists.{view_at}
+use Rattle.pdl_pipe_nexts.proofs.pipe_registers.Lists.{view_at}
 use Rattle.pdl_pipe_nexts.specs.Lines.{line_pipe, line_views, line_moves}
 use Rattle.pdl_pipe_moves.proofs.moving.stage_moves.Goals as goal
 

@@ -2,7 +2,7 @@ use Rattle.std.proofs.Common.{refl, sym, ap, arith}
 use Rattle.pdl_net.specs.Meaning.{signal}
 use Rattle.pdl_squash.specs.Laws.{signal_at as squash_net}
 use Rattle.pdl_law_parts.specs.Views.{View}
-use Rattle.pdl_pipe_registers.proofs.Lists.{view_at}
+use Rattle.pdl_pipe_nexts.proofs.pipe_registers.Lists.{view_at}
 use Rattle.pdl_pipe_nexts.specs.Lines.{line_views}
 use Rattle.pdl_pipe_moves.proofs.AllMoves.{squash_as, valid_bits, valid_is}
 use Rattle.pdl_pipe_moves.proofs.squash.squash_by.Goals as goal

@@ -1,8 +1,8 @@
 use Rattle.std.proofs.Common.{◌≡◌, ◌<◌, ℕ, length}
 use Rattle.pdl_net.specs.declared.Net.TheVariants.{Reg as RegNet}
 use Rattle.pdl_squash.specs.Laws.{net_at}
-use Rattle.pdl_pipe_registers.specs.declared.nets.StageNets.{StageNets}
-use Rattle.pdl_pipe_registers.specs.Stages.{IsAt}
+use Rattle.pdl_pipe_nexts.specs.pipe_registers.declared.nets.StageNets.{StageNets}
+use Rattle.pdl_pipe_nexts.specs.pipe_registers.Stages.{IsAt}
 use Rattle.pdl_pipe_moves.proofs.squash.valids.Given as goal
 
 -- those of the first stages

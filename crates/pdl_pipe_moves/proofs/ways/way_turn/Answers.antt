@@ -10,7 +10,7 @@ use Rattle.pdl_law_parts.specs.Walk.{is_on}
 use Rattle.pdl_law_parts.specs.Views.{View, way_on}
 use Rattle.pdl_pipe_walk.specs.Parts.{parts_in}
 use Rattle.pdl_pipe_walk.proofs.NetGrowth.{var_count, var_width}
-use Rattle.pdl_pipe_registers.proofs.Lists.{view_at}
+use Rattle.pdl_pipe_nexts.proofs.pipe_registers.Lists.{view_at}
 use Rattle.pdl_pipe_nexts.specs.Lines.{line_form, line_pipe, line_views}
 use Rattle.pdl_pipe_nexts.proofs.ArrivalNets.{fork_at}
 use Rattle.pdl_pipe_moves.specs.Gates.{turn_in}

@@ -7,7 +7,7 @@ use Rattle.pdl_net.specs.Meaning.{signal}
 use Rattle.pdl_net.proofs.Keeps.{extends_keeps, extends_trans}
 use Rattle.pdl_pipe_exprs.specs.Nets.{signals_in, signal_at}
 use Rattle.pdl_pipe_exprs.proofs.NetLists.{there_keeps, signals_keep, width_at}
-use Rattle.pdl_law_sides.specs.Sides.{with_answer}
+use Rattle.pdl_pipe_answers.specs.law_sides.Sides.{with_answer}
 use Rattle.pdl_pipe_answers.specs.Ports.{answers_in, BindsWide}
 use Rattle.pdl_pipe_answers.proofs.PortAnswers.{answers_keep, answer_same}
 use Rattle.pdl_pipe_registers.proofs.Lists.{up_to}

@@ -2,7 +2,7 @@ use Rattle.std.proofs.Common.{◌≡◌, ℕ, ◌<◌, take}
 use Rattle.pdl_form.specs.FormView.{form}
 use Rattle.pdl_net.specs.Growth.{Extends}
 use Rattle.pdl_pipe_exprs.specs.Nets.{signals_in, signal_at}
-use Rattle.pdl_law_sides.specs.Sides.{with_answer}
+use Rattle.pdl_pipe_answers.specs.law_sides.Sides.{with_answer}
 use Rattle.pdl_pipe_answers.specs.Ports.{answers_in}
 use Rattle.pdl_pipe_registers.proofs.Begins.{HasNets}
 use Rattle.pdl_pipe_registers.proofs.entry.begin_answers.Given as goal

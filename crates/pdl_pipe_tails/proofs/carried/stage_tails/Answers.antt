@@ -5,7 +5,7 @@ use Rattle.pdl_net.specs.Meaning.{signal}
 use Rattle.pdl_net.proofs.Keeps.{extends_keeps, extends_trans, keeps_trans}
 use Rattle.pdl_pipe_exprs.specs.Nets.{NetsThere, signals_in, signal_at}
 use Rattle.pdl_pipe_exprs.proofs.NetLists.{net_more, there_keeps, signals_keep}
-use Rattle.pdl_pipe_registers.proofs.Begins.{each_way}
+use Rattle.pdl_pipe_nexts.proofs.pipe_registers.Begins.{each_way}
 use Rattle.pdl_pipe_nexts.specs.Lines.{line_pipe, line_views, line_moves}
 use Rattle.pdl_pipe_nexts.specs.Arrivals.{AreArrivals}
 use Rattle.pdl_pipe_tails.specs.Carried.{HaveTails, AreComing}

@@ -9,7 +9,7 @@ use Rattle.pdl_law_parts.specs.Views.{View}
 use Rattle.pdl_law_parts.specs.Ports.{reserves_to}
 use Rattle.pdl_pipe_walk.specs.declared.nets.ReserveNet.{ReserveNet}
 use Rattle.pdl_pipe_walk.specs.Parts.{reservation_in}
-use Rattle.pdl_pipe_registers.proofs.Lists.{view_at}
+use Rattle.pdl_pipe_nexts.proofs.pipe_registers.Lists.{view_at}
 use Rattle.pdl_pipe_nexts.specs.Lines.{line_pipe, line_views, line_moves}
 use Rattle.pdl_pipe_nexts.proofs.LineGrowth.{bits_there, bit_one, line_keep, ended_same, moves_same}
 use Rattle.pdl_pipe_tails.specs.Reserved.{IsReserve, IsAfter}

@@ -4,8 +4,8 @@ use Rattle.pdl_net.specs.Meaning.{signal}
 use Rattle.pdl_net.proofs.Keeps.{extends_keeps, extends_trans}
 use Rattle.pdl_pipe_exprs.specs.Nets.{NetsThere, signals_in, signal_at}
 use Rattle.pdl_pipe_exprs.proofs.NetLists.{net_more, there_keeps, signals_keep}
-use Rattle.pdl_pipe_registers.proofs.Lists.{up_to}
-use Rattle.pdl_pipe_registers.proofs.Begins.{signal_old, signal_new}
+use Rattle.pdl_pipe_nexts.proofs.pipe_registers.Lists.{up_to}
+use Rattle.pdl_pipe_nexts.proofs.pipe_registers.Begins.{signal_old, signal_new}
 use Rattle.pdl_pipe_nexts.proofs.LineGrowth.{line_keep}
 use Rattle.pdl_pipe_tails.specs.Reserved.{IsAfterAll}
 use Rattle.pdl_pipe_tails.proofs.Rows.{after_from}

@@ -1,37 +1,22 @@
-use Rattle.std.proofs.Common.{◌≡◌, ◌∙◌, sym, ap}
-use Rattle.pdl_net.specs.Signal.{Signal}
+use Rattle.std.proofs.Common.{◌≡◌, sym, ap, ◌∙◌}
+use Rattle.pdl_net.specs.Signal.{read_signal}
 use Rattle.pdl_net.specs.Meaning.{signal}
-use Rattle.pdl_net.proofs.Keeps.{extends_keeps, extends_trans}
-use Rattle.pdl_lockapi.specs.Laws.{StepSignals, step_signals}
+use Rattle.pdl_net.proofs.Keeps.{extends_keeps}
+use Rattle.pdl_lockapi.specs.Laws.{step_signals}
 use Rattle.pdl_lockapi.proofs.LockGrowth.{same_signals}
-use Rattle.pdl_lock_ring.proofs.RingGrowth.{ports_kept, means_as}
-use Rattle.pdl_rename.specs.Nets.{put_signal}
-use Rattle.pdl_rename.proofs.Words.{stored_more}
+use Rattle.pdl_lock_ring.proofs.RingGrowth.{means_as}
+use Rattle.pdl_lock_ring.proofs.Fills.{same_filled, writes_count}
 use Rattle.pdl_rename.proofs.step.emit_stored.Goals as goal
 
-pub emit_put_word-requires-clause-given : goal.emit_put_word-requires-clause-given
-emit_put_word-requires-clause-given c = ports_kept c.args.b.now c.loop-j.b c.args.l.slots c.args.p.now c.requires.given c.loop-j.invariant.extends
-
-pub loop-j-preserved : goal.loop-j-preserved
-loop-j-preserved c =
+pub returns-clause-means : goal.returns-clause-means
+returns-clause-means c =
     let a = c.args.b.now in
-    let b = c.loop-j.b in
-    let d = c.emit_put_word.new.b in
+    let b1 = c.read.new.self in
     let l = c.args.l in
     let p = c.args.p.now in
-    let j = c.loop-j.j in
-    let f = step_signals a p in
-    let x = c.loop-j.invariant.extends in
-    let n = c.in_ok-word-2.ensures in
-    let slot = signal a c.args.slot in
-    let place = signal a c.args.place in
-    let s : step_signals b p ≡ f = same_signals a b p c.requires.given.ports (extends_keeps a b x) in
-    record {
-      extends = extends_trans a b d x n.extends;
-      wide = n.wide;
-      word =
-          means_as d _ _ _ n.means
-          (ap (λ (g : StepSignals). put_signal l g (signal b c.args.slot) j (signal b c.loop-j.word)) s
-          ∙ ap (λ (g : Signal). put_signal l f g j (signal b c.loop-j.word)) (x.kept c.args.slot c.requires.slot.there)
-          ∙ ap (put_signal l f slot j) c.loop-j.invariant.word.same ∙ sym (stored_more l f slot place j));
-    }
+    let x = c.in_ok-word.ensures.extends in
+    let s : step_signals b1 p ≡ step_signals a p = same_signals a b1 p c.requires.given.ports (extends_keeps a b1 x) in
+    let word : signal b1 c.in_ok-word.word ≡ read_signal l.slots.width l.array (signal a c.args.place) =
+    c.in_ok-word.ensures.means.same ∙ ap (λ w. read_signal w l.array (signal a c.args.place)) c.requires.store.store_word in
+    means_as c.emit_value.new.b c.in_ok-stored.stored _ _ c.in_ok-stored.ensures.value
+    (same_filled l.slots _ _ _ _ _ _ _ _ s word (x.kept c.args.slot c.requires.slot.there) (sym (writes_count a p)))

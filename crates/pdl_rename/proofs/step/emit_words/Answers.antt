@@ -7,9 +7,8 @@ use Rattle.pdl_lockapi.proofs.LockGrowth.{same_signals}
 use Rattle.pdl_lock_ring.specs.Looks.{slot_of, head_signal}
 use Rattle.pdl_lock_ring.specs.Steps.{next_head}
 use Rattle.pdl_lock_ring.proofs.RingGrowth.{means_as, later_is}
-use Rattle.pdl_lock_ring.proofs.Fills.{writes_count}
 use Rattle.pdl_rename.specs.Nets.{oldest_value}
-use Rattle.pdl_rename.proofs.Words.{same_stored}
+use Rattle.pdl_rename.proofs.ChoiceWidths.{same_stored}
 use Rattle.pdl_rename.proofs.step.emit_words.Goals as goal
 
 pub returns-clause-first : goal.returns-clause-first
@@ -31,7 +30,7 @@ returns-clause-first c =
     c.in_ok-slot.ensures.means.same ∙ ap (slot_of l.slots) c.requires.given.slots.head in
     let first : Means b2 c.in_ok-first.first (oldest_value l f) =
     means_as b2 _ _ _ c.in_ok-first.ensures.means
-    (same_stored l _ _ _ _ _ _ _ _ s slot (later_is a b1 c.args.o.first.content _ x1 c.requires.oldest.content) (sym (writes_count a p))) in
+    (same_stored l _ _ _ _ _ _ s (later_is a b1 c.args.o.first.content _ x1 c.requires.oldest.content) slot) in
     record { there = x35.there _ first.there; same = later_is b2 b5 _ _ x35 first }
 
 pub returns-clause-second : goal.returns-clause-second
@@ -52,4 +51,4 @@ returns-clause-second c =
     let slot : signal b4 c.in_ok-slot2.slot2 ≡ slot_of l.slots (next_head l.slots) =
     c.in_ok-slot2.ensures.means.same ∙ ap (slot_of l.slots) c.in_ok-next.ensures.means.same in
     means_as b5 _ _ _ c.in_ok-second.ensures.means
-    (same_stored l _ _ _ _ _ _ _ _ s slot (later_is a b4 c.args.o.second.content _ x c.requires.oldest.content2) (sym (writes_count a p)))
+    (same_stored l _ _ _ _ _ _ s (later_is a b4 c.args.o.second.content _ x c.requires.oldest.content2) slot)

@@ -1,0 +1,1 @@
+pub use Rattle.pdl_law_parts.proofs.Signals

@@ -1,0 +1,2 @@
+pub mod FileMap
+pub mod ToldAnswers
