@@ -12,7 +12,7 @@ use Rattle.std.proofs.lemmas.Option.{slice_get_past, slice_get-get_or}
 use Rattle.pdl_kit.specs.declared.mem_info.MemInfo.{MemInfo}
 use Rattle.pdl_kit.specs.declared.rule.Rule.{Rule}
 use Rattle.pdl_kit.specs.declared.rule.Rule.TheVariants.{I2, I3, I4, I5, I6}
-use Rattle.pdl_image.specs.Images.{Word, broken_rule, broken_in, given_value, value_at, word_of, says_nothing, mem_of, fields, word_of_parts, or_else}
+use Rattle.pdl_image.specs.Images.{LineWord, broken_rule, broken_in, given_value, value_at, word_of, says_nothing, mem_of, fields, word_of_parts, or_else}
 use Rattle.pdl_image.specs.Slots.{slots_of, all_slots, IsFor, broken_at, Follows}
 use Rattle.pdl_image.proofs.Parts.{place_is, none_passes}
 use Rattle.pdl_image.proofs.MapSet.{map_same, map_set}
@@ -116,7 +116,7 @@ find_none : (p : MemInfo → Bool) (mems : List MemInfo) → position p mems ≡
 find_none p mems e = find_at p mems ∙ slice_get_past mems _ (none_passes p mems e)
 
 -- a line that gives a word of a memory which is not there breaks I3
-pub no_memory : (mems : List MemInfo) (before : List (List ℕ)) (line : List ℕ) (w : Word)
+pub no_memory : (mems : List MemInfo) (before : List (List ℕ)) (line : List ℕ) (w : LineWord)
     → says_nothing line ≡ false → word_of line ≡ Some w → position (λ m. bytes_eq m.name w.name) mems ≡ None
     → broken_rule mems before line ≡ Some I3
 unfolding broken_rule
@@ -137,7 +137,7 @@ row_at : (before : List (List ℕ)) (m : MemInfo) (address : ℕ)
 unfolding slots_of
 row_at before m address h = get_or-map-range_with_len _ 0 m.depth address address None h (omega arith)
 
-broken_word : (before : List (List ℕ)) (m : MemInfo) (w : Word)
+broken_word : (before : List (List ℕ)) (m : MemInfo) (w : LineWord)
     → m.name ≡ w.name → broken_in before w (Some m) ≡ broken_at m (slots_of before m) w.address w.value
 unfolding broken_at
 broken_word before m w e = elim (cases_lt w.address m.depth) [
@@ -150,14 +150,14 @@ broken_word before m w e = elim (cases_lt w.address m.depth) [
 ]
 
 -- the value that a word has for its own address, and for another one
-pub value_same : (w : Word) (name : List ℕ) → name ≡ w.name → value_at (Some w) name w.address ≡ Some w.value
+pub value_same : (w : LineWord) (name : List ℕ) → name ≡ w.name → value_at (Some w) name w.address ≡ Some w.value
 value_same w name e =
     let t : bytes_eq w.name name ≡ true = (bytes_eq-Decides w.name name).1 (sym e) in
     let u : eqb w.address w.address ≡ true = eq-eqb w.address w.address refl in
     rw (t, u) refl
 
 -- a word has no value for another memory or another address
-pub value_other : (w : Word) (name : List ℕ) (address : ℕ)
+pub value_other : (w : LineWord) (name : List ℕ) (address : ℕ)
     → (name ≡ w.name → address ≡ w.address → ⊥) → value_at (Some w) name address ≡ None
 value_other w name address no_way = elim (cases_Bool (bytes_eq w.name name && eqb w.address address)) [
   | inl t ↦
@@ -188,7 +188,7 @@ taken_facts m slots address value e =
     (leb-false m.depth address f.0, f.1)
 
 -- the memory's slots with the word's one set
-row_set : (before : List (List ℕ)) (line : List ℕ) (w : Word) (m : MemInfo)
+row_set : (before : List (List ℕ)) (line : List ℕ) (w : LineWord) (m : MemInfo)
     → word_of line ≡ Some w → m.name ≡ w.name → w.address < m.depth → given_value before m.name w.address ≡ None
     → set (slots_of before m) w.address (Some w.value) ≡ slots_of (before ++ line ∷ []) m
 unfolding slots_of
@@ -207,7 +207,7 @@ row_set before line w m e n l free =
     kept before line m.name a (ap (λ o. value_at o m.name a) e ∙ value_other w m.name a (λ p q. ne (sym f ∙ q))))
 
 -- another memory's slots
-row_other : (before : List (List ℕ)) (line : List ℕ) (w : Word) (m : MemInfo)
+row_other : (before : List (List ℕ)) (line : List ℕ) (w : LineWord) (m : MemInfo)
     → word_of line ≡ Some w → (m.name ≡ w.name → ⊥) → slots_of before m ≡ slots_of (before ++ line ∷ []) m
 unfolding slots_of
 row_other before line w m e ne =
@@ -224,7 +224,7 @@ names_differ mems i j d h li lj ne = elim (cases_order i j) [
 ]
 
 -- a line says a word of the memory at a place, whose slots are the row
-pub record IsNamed (mems : List MemInfo) (before : List (List ℕ)) (line : List ℕ) (w : Word) (place : ℕ) (m : MemInfo)
+pub record IsNamed (mems : List MemInfo) (before : List (List ℕ)) (line : List ℕ) (w : LineWord) (place : ℕ) (m : MemInfo)
     (row : List (Option ℕ)) (slots : List (List (Option ℕ))) : Type 0 where
   pub said : says_nothing line ≡ false
   pub word : word_of line ≡ Some w
@@ -233,7 +233,7 @@ pub record IsNamed (mems : List MemInfo) (before : List (List ℕ)) (line : List
   pub was : slots ≡ all_slots mems before
   pub here : row ≡ get_or slots place row
 
-mem_facts : (mems : List MemInfo) (before : List (List ℕ)) (line : List ℕ) (w : Word) (place : ℕ) (m : MemInfo)
+mem_facts : (mems : List MemInfo) (before : List (List ℕ)) (line : List ℕ) (w : LineWord) (place : ℕ) (m : MemInfo)
     (row : List (Option ℕ)) (slots : List (List (Option ℕ)))
     → IsNamed mems before line w place m row slots
     → (place < length mems) × (m.name ≡ w.name) × (row ≡ slots_of before m)
@@ -245,7 +245,7 @@ mem_facts mems before line w place m row slots f =
     let r : get_or (map (slots_of before) mems) place row ≡ slots_of before (get_or mems place m) = get_or-map (slots_of before) mems place m row l in
     (l, n, f.here ∙ ap (λ s. get_or s place row) f.was ∙ r ∙ ap (slots_of before) (sym f.mem))
 
-rule_at : (mems : List MemInfo) (before : List (List ℕ)) (line : List ℕ) (w : Word) (place : ℕ) (m : MemInfo)
+rule_at : (mems : List MemInfo) (before : List (List ℕ)) (line : List ℕ) (w : LineWord) (place : ℕ) (m : MemInfo)
     (row : List (Option ℕ)) (slots : List (List (Option ℕ)))
     → IsNamed mems before line w place m row slots → broken_rule mems before line ≡ broken_at m row w.address w.value
 unfolding broken_rule
@@ -254,7 +254,7 @@ rule_at mems before line w place m row slots f =
     let h : mem_of mems w.name ≡ Some m = (find_some (λ k. bytes_eq k.name w.name) mems place m f.found f.mem).0 in
     rw (f.said, f.word) (ap (broken_in before w) h ∙ broken_word before m w g.1 ∙ ap (λ r. broken_at m r w.address w.value) (sym g.2))
 
-slots_at : (mems : List MemInfo) (before : List (List ℕ)) (line : List ℕ) (w : Word) (place : ℕ) (m : MemInfo)
+slots_at : (mems : List MemInfo) (before : List (List ℕ)) (line : List ℕ) (w : LineWord) (place : ℕ) (m : MemInfo)
     (row : List (Option ℕ)) (slots : List (List (Option ℕ)))
     → AllPairs (λ a b. a.name ≢ b.name) mems → IsNamed mems before line w place m row slots
     → broken_at m row w.address w.value ≡ None
@@ -273,7 +273,7 @@ slots_at mems before line w place m row slots distinct f e =
     (λ i d l ne. row_other before line w (get_or mems i d) f.word (λ n. names_differ mems i place d distinct l g.0 ne (n ∙ sym g.1 ∙ ap (λ k. k.name) (at d))))
 
 -- a line that gives a word of a memory which is there breaks the rule that is found, or sets the word's slot
-pub word_follows : (mems : List MemInfo) (before : List (List ℕ)) (line : List ℕ) (w : Word) (place : ℕ) (m : MemInfo)
+pub word_follows : (mems : List MemInfo) (before : List (List ℕ)) (line : List ℕ) (w : LineWord) (place : ℕ) (m : MemInfo)
     (row : List (Option ℕ)) (slots : List (List (Option ℕ))) (new : List (Option ℕ)) (result : Result (Unit {0}) Rule)
     → AllPairs (λ a b. a.name ≢ b.name) mems → IsNamed mems before line w place m row slots
     → MatchResult result (λ _. broken_at m row w.address w.value ≡ None) (λ rule. broken_at m row w.address w.value ≡ Some rule)

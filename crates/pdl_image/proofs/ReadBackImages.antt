@@ -9,11 +9,11 @@ use Rattle.std.proofs.lemmas.List.Splits.{slice_split-cons_yes, slice_split-cons
 use Rattle.std.proofs.lemmas.Slice.Eq.{bytes_eq-Decides}
 use Rattle.pdl_kit.specs.declared.mem_info.MemInfo.{MemInfo}
 use Rattle.pdl_image.specs.Lines.{lines, byte_before}
-use Rattle.pdl_image.specs.Images.{Word, at_line, broken_rule, broken_by, broken_in, contents, fields, first_wrong, given_value, image, image_after, after_header, is_letter, is_name, is_name_byte, mem_of, or_else, says_nothing, value_at, word_of, words_of}
+use Rattle.pdl_image.specs.Images.{LineWord, at_line, broken_rule, broken_by, broken_in, contents, fields, first_wrong, given_value, image, image_after, after_header, is_letter, is_name, is_name_byte, mem_of, or_else, says_nothing, value_at, word_of, words_of}
 use Rattle.pdl_image.proofs.LineSteps.{given_push, value_other, value_same}
 use Rattle.pdl_image.proofs.LineWords.{word_found}
 use Rattle.pdl_image.proofs.MapSet.{map_same}
-use Rattle.pdl_word.specs.Digits.{is_digit_of, are_digits}
+use Rattle.pdl_word.specs.Digits.{is_digit_of, are_digits, most_hex}
 
 -- ---- a line
 
@@ -70,7 +70,7 @@ no_comment (x ∷ []) ys h = rw (differs is_letter 47 x refl (and_parts (is_lett
 no_comment (x ∷ y ∷ more) ys h = rw (differs is_letter 47 x refl (and_parts (is_letter x) _ h).0) refl
 
 -- a name, decimal digits and hexadecimal ones, with spaces between them
-pub says : (name a v : List ℕ) (address value : ℕ) → is_name name ≡ true → are_digits 10 10 a ≡ true → are_digits 16 16 v ≡ true
+pub says : (name a v : List ℕ) (address value : ℕ) → is_name name ≡ true → are_digits 10 10 a ≡ true → are_digits 16 most_hex v ≡ true
     → address ≡ digits_value 10 a → value ≡ digits_value 16 v → Says (name ++ 32 ∷ (a ++ 32 ∷ v)) name address value
 says name a v address value n d h e f =
     let ds = (and_parts _ _ d).0 in
@@ -121,7 +121,7 @@ module _ (m : MemInfo) (count : ℕ) (word : ℕ → Option ℕ) (text : ℕ →
   unfolding given_value
   line_given a k None more l e ne = refl
   line_given a k (Some v) more l e ne =
-      let w : Word = record { name = m.name; address = a; value = v } in
+      let w : LineWord = record { name = m.name; address = a; value = v } in
       ap (λ o. or_else (value_at o m.name k) (given_value more m.name k)) (g.says a v l e).word
       ∙ ap (λ o. or_else o (given_value more m.name k)) (value_other w m.name k (λ p q. ne q))
 
@@ -130,7 +130,7 @@ module _ (m : MemInfo) (count : ℕ) (word : ℕ → Option ℕ) (text : ℕ →
   unfolding given_value
   here_given a None more l e f = f
   here_given a (Some v) more l e f =
-      let w : Word = record { name = m.name; address = a; value = v } in
+      let w : LineWord = record { name = m.name; address = a; value = v } in
       ap (λ o. or_else (value_at o m.name a) (given_value more m.name a)) (g.says a v l e).word
       ∙ ap (λ o. or_else o (given_value more m.name a)) (value_same w m.name refl)
 
@@ -157,7 +157,7 @@ module _ (m : MemInfo) (count : ℕ) (word : ℕ → Option ℕ) (text : ℕ →
 
   -- ---- no line breaks a rule
 
-  rule_none : (before : List (List ℕ)) (w : Word) → w.address < m.depth → w.value < 2 ^ m.width
+  rule_none : (before : List (List ℕ)) (w : LineWord) → w.address < m.depth → w.value < 2 ^ m.width
       → given_value before w.name w.address ≡ None → broken_in before w (Some m) ≡ None
   rule_none before w l s e = rw (lt-leb m.depth w.address l, lt-leb (2 ^ m.width) w.value s, e) refl
 
@@ -165,7 +165,7 @@ module _ (m : MemInfo) (count : ℕ) (word : ℕ → Option ℕ) (text : ℕ →
       → broken_rule (m ∷ []) before (line a v) ≡ None
   unfolding broken_rule
   line_right before a v l e f =
-      let w : Word = record { name = m.name; address = a; value = v } in
+      let w : LineWord = record { name = m.name; address = a; value = v } in
       let s = g.says a v l e in
       let here : mem_of (m ∷ []) m.name ≡ Some m = ap (λ b. cond b (Some m) None) ((bytes_eq-Decides m.name m.name).1 refl) in
       ap (λ b. cond b None (broken_by (m ∷ []) before (word_of (line a v)))) s.said
@@ -176,7 +176,7 @@ module _ (m : MemInfo) (count : ℕ) (word : ℕ → Option ℕ) (text : ℕ →
   later_free : (before : List (List ℕ)) (a v k : ℕ) → a < count → word a ≡ Some v → a < k
       → given_value before m.name k ≡ None → given_value (before ++ line a v ∷ []) m.name k ≡ None
   later_free before a v k l e h f =
-      let w : Word = record { name = m.name; address = a; value = v } in
+      let w : LineWord = record { name = m.name; address = a; value = v } in
       given_push before (line a v) m.name k ∙ ap (λ o. or_else o (value_at (word_of (line a v)) m.name k)) f
       ∙ ap (λ o. value_at o m.name k) (g.says a v l e).word ∙ value_other w m.name k (λ p q. omega (arith, h, q))
 

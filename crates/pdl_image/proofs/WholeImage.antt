@@ -15,7 +15,7 @@ use Rattle.pdl_kit.specs.declared.mem_info.MemInfo.{MemInfo}
 use Rattle.pdl_kit.specs.declared.rule.Rule.{Rule}
 use Rattle.pdl_kit.specs.declared.rule.Rule.TheVariants.{I1}
 use Rattle.pdl_image.specs.Lines.{lines}
-use Rattle.pdl_image.specs.Images.{image, image_after, contents, after_header, first_wrong, at_line, words_of, given_value, or_else, value_at, broken_rule, broken_by, broken_in, mem_of, says_nothing, word_of, Word, IsRefusal, IsImage}
+use Rattle.pdl_image.specs.Images.{image, image_after, contents, after_header, first_wrong, at_line, words_of, given_value, or_else, value_at, broken_rule, broken_by, broken_in, mem_of, says_nothing, word_of, LineWord, IsRefusal, IsImage}
 use Rattle.pdl_image.specs.Slots.{slots_of, all_slots}
 use Rattle.pdl_image.proofs.MapSet.{map_same}
 use Rattle.pdl_image.proofs.LineSteps.{nothing_given, middle_passes}
@@ -67,7 +67,7 @@ or_small : (x y : Option ℕ) (n : ℕ) → ((v : ℕ) → x ≡ Some v → v < 
 or_small None y n h k = k
 or_small (Some v) y n h k = h v refl
 
-value_if : (b : Bool) (w : Word) (v : ℕ) → cond b (Some w.value) None ≡ Some v → (b ≡ true) × (w.value ≡ v)
+value_if : (b : Bool) (w : LineWord) (v : ℕ) → cond b (Some w.value) None ≡ Some v → (b ≡ true) × (w.value ≡ v)
 value_if true w v e = (refl, cc)
 value_if false w v e = cc
 
@@ -84,7 +84,7 @@ find_self mems k d distinct l =
     find_at p mems ∙ ap (slice_get mems) e ∙ slice_get-get_or mems k d l
 
 -- a right line's value fits its memory
-line_small : (mems : List MemInfo) (before : List (List ℕ)) (line : List ℕ) (m : MemInfo) (o : Option Word) (address v : ℕ)
+line_small : (mems : List MemInfo) (before : List (List ℕ)) (line : List ℕ) (m : MemInfo) (o : Option LineWord) (address v : ℕ)
     → broken_by mems before o ≡ None → mem_of mems m.name ≡ Some m → value_at o m.name address ≡ Some v → v < 2 ^ m.width
 line_small mems before line m None address v b e f = cc
 line_small mems before line m (Some w) address v b e f =

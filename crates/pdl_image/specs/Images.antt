@@ -9,7 +9,7 @@ use Rattle.pdl_kit.specs.declared.rule.Rule.TheVariants.{I1, I2, I3, I4, I5, I6}
 use Rattle.pdl_image.specs.Lines.{lines}
 use Rattle.pdl_image.specs.declared.file_error.FileError.{FileError}
 use Rattle.pdl_image.specs.declared.file_error.FileError.TheVariants.{Refused, NoMemory}
-use Rattle.pdl_word.specs.Digits.{is_digit_of, are_digits}
+use Rattle.pdl_word.specs.Digits.{is_digit_of, are_digits, most_hex}
 
 -- a lower letter
 abbrev pub is_letter : ℕ → Bool
@@ -25,15 +25,15 @@ is_name [] = false
 is_name (c ∷ cs) = is_letter c && (nat_lt (length cs) 32 && list_all is_name_byte cs)
 
 -- a word that a line gives: the memory's name, the address and the value
-pub record Word : Type 0 where
+pub record LineWord : Type 0 where
   pub name : List ℕ
   pub address : ℕ
   pub value : ℕ
 
--- the word, where a line's parts between spaces are a name, an address of 1 to 10 decimal digits and a value of 1 to 16 lower hexadecimal digits
-abbrev pub word_of_parts : List (List ℕ) → Option Word
+-- the word, where a line's parts between spaces are a name, an address of 1 to 10 decimal digits and a value of 1 to most_hex lower hexadecimal digits
+abbrev pub word_of_parts : List (List ℕ) → Option LineWord
 word_of_parts (n ∷ a ∷ v ∷ []) =
-    if is_name n && (are_digits 10 10 a && are_digits 16 16 v)
+    if is_name n && (are_digits 10 10 a && are_digits 16 most_hex v)
     then Some (record { name = n; address = digits_value 10 a; value = digits_value 16 v })
     else None
 word_of_parts _ = None
@@ -43,7 +43,7 @@ unfoldable pub fields : List ℕ → List (List ℕ)
 fields line = slice_split (λ c. c == 32) line
 
 -- the word that a line of the form `<mem> <address> <hex>` gives
-unfoldable pub word_of : List ℕ → Option Word
+unfoldable pub word_of : List ℕ → Option LineWord
 word_of line = word_of_parts (fields line)
 
 -- an empty line, or a comment: it begins with `//`
@@ -57,7 +57,7 @@ abbrev pub mem_of : List MemInfo → List ℕ → Option MemInfo
 mem_of mems name = find (λ m. bytes_eq m.name name) mems
 
 -- the value that a line's word has for a memory's address
-abbrev pub value_at : Option Word → List ℕ → ℕ → Option ℕ
+abbrev pub value_at : Option LineWord → List ℕ → ℕ → Option ℕ
 value_at None name address = None
 value_at (Some w) name address = if bytes_eq w.name name && w.address == address then Some w.value else None
 
@@ -72,7 +72,7 @@ given_value [] name address = None
 given_value (line ∷ more) name address = or_else (value_at (word_of line) name address) (given_value more name address)
 
 -- the lowest rule that a word for a memory breaks, after lines that gave others: I4 asks the address, I5 the value, I6 that it is given once
-abbrev pub broken_in : List (List ℕ) → Word → Option MemInfo → Option Rule
+abbrev pub broken_in : List (List ℕ) → LineWord → Option MemInfo → Option Rule
 broken_in before w None = Some I3
 broken_in before w (Some m) =
     if nat_le m.depth w.address then Some I4
@@ -81,7 +81,7 @@ broken_in before w (Some m) =
     else None
 
 -- the lowest rule that a line breaks which has to give a word: I2 asks its form, I3 that there is the memory
-abbrev pub broken_by : List MemInfo → List (List ℕ) → Option Word → Option Rule
+abbrev pub broken_by : List MemInfo → List (List ℕ) → Option LineWord → Option Rule
 broken_by mems before None = Some I2
 broken_by mems before (Some w) = broken_in before w (mem_of mems w.name)
 

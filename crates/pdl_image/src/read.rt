@@ -6,6 +6,7 @@ ghost use Rattle.pdl_kit.specs.declared.files.TheConstants.{LONGEST_FILE};
 ghost use Rattle.pdl_image.specs.Images.{IsImage, IsRefusal, after_header as after_header_of, image as image_of};
 ghost use Rattle.pdl_image.specs.Lines.{lines};
 ghost use Rattle.pdl_image.specs.Slots.{AreTaken, Follows, IsFor, all_slots, broken_at};
+ghost use Rattle.pdl_word.specs.Words.{widest};
 
 use crate::file_error::FileError;
 use crate::image::Image;
@@ -13,7 +14,7 @@ use crate::lines::split_line;
 use crate::slots::Slots;
 use crate::word::{read_word, says_nothing};
 use pdl_kit::{MemInfo, NoMemory, Rule, Seq};
-use pdl_word::mask;
+use pdl_word::{Word, mask};
 use std::alloc::Global;
 
 /// The first line of an image.
@@ -29,9 +30,9 @@ fn place_of(mems: &[MemInfo], name: &[u8]) -> Option<usize>
 
 // Keeps a word of a memory, or the rule that it breaks is the answer.
 #[tactic(auto, unfolding(crate::specs::Slots::broken_at, pdl_word::specs::Words::mask))]
-fn put_word(mem: &MemInfo, slots: &mut Slots, address: u64, value: u64) -> Result<(), Rule>
+fn put_word(mem: &MemInfo, slots: &mut Slots, address: u64, value: Word) -> Result<(), Rule>
     requires low { 1 ≤ mem.now.width }
-    requires high { mem.now.width ≤ 64 }
+    requires high { mem.now.width ≤ widest }
     requires depth { length slots.old ≡ mem.now.depth }
     ensures rule { MatchResult result (λ _. broken_at mem.now slots.old address value ≡ None)
         (λ rule. broken_at mem.now slots.old address value ≡ Some rule) }
@@ -55,7 +56,7 @@ fn put_word(mem: &MemInfo, slots: &mut Slots, address: u64, value: u64) -> Resul
 fn take_line(mems: &[MemInfo], slots: &mut [Slots], line: &[u8]) -> Result<(), Rule>
     requires names { AllPairs (λ a b. a.name ≢ b.name) mems.now }
     requires low { All (λ m. 1 ≤ m.width) mems.now }
-    requires high { All (λ m. m.width ≤ 64) mems.now }
+    requires high { All (λ m. m.width ≤ widest) mems.now }
     requires slots { IsFor mems.now slots.old }
     ensures { (before : List (List ℕ)) → slots.old ≡ all_slots mems.now before
         → Follows mems.now before line.now result slots.new }
@@ -89,7 +90,7 @@ fn empty_slots(alloc: Global, mems: &[MemInfo]) -> Result<Vec<Slots>, NoMemory>
 fn take_lines(mems: &[MemInfo], slots: &mut [Slots], text: &[u8]) -> Result<(), FileError>
     requires names { AllPairs (λ a b. a.name ≢ b.name) mems.now }
     requires low { All (λ m. 1 ≤ m.width) mems.now }
-    requires high { All (λ m. m.width ≤ 64) mems.now }
+    requires high { All (λ m. m.width ≤ widest) mems.now }
     requires short { length text.now ≤ LONGEST_FILE }
     requires empty { slots.old ≡ all_slots mems.now [] }
     ensures { AreTaken mems.now (lines text.now) result slots.new }
@@ -134,13 +135,13 @@ fn after_header(text: &[u8]) -> Option<&[u8]>
 
 /// Reads the words of memories from the text of an image.
 ///
-/// A text is the line `image 1` (I1), and then lines that are empty, begin with `//`, or are `<mem> <address> <hex>` with single spaces, a name of at most 32 characters, 1 to 10 decimal digits and 1 to 16 lower hexadecimal digits (I2). The memory is one of those given (I3), the address is below its depth (I4), the value is below `2 ^ width` (I5), and no earlier line gave the word (I6). All other words are 0. A line feed ends a line; the last one may lack it.
+/// A text is the line `image 1` (I1), and then lines that are empty, begin with `//`, or are `<mem> <address> <hex>` with single spaces, a name of at most 32 characters, 1 to 10 decimal digits and 1 to `MOST_HEX` lower hexadecimal digits (I2). The memory is one of those given (I3), the address is below its depth (I4), the value is below `2 ^ width` (I5), and no earlier line gave the word (I6). All other words are 0. A line feed ends a line; the last one may lack it.
 ///
-/// The names of the memories differ, their widths are 1 to 64 bits, and the text has at most `LONGEST_FILE` bytes. A refusal is that of the lowest wrong line, counted from 1, and there of the lowest rule.
+/// The names of the memories differ, their widths are 1 to `WIDEST` bits, and the text has at most `LONGEST_FILE` bytes. A refusal is that of the lowest wrong line, counted from 1, and there of the lowest rule.
 pub fn read_image(alloc: Global, mems: &[MemInfo], text: &[u8]) -> Result<Image, FileError>
     requires names { AllPairs (λ a b. a.name ≢ b.name) mems.now }
     requires low { All (λ m. 1 ≤ m.width) mems.now }
-    requires high { All (λ m. m.width ≤ 64) mems.now }
+    requires high { All (λ m. m.width ≤ widest) mems.now }
     requires short { length text.now ≤ LONGEST_FILE }
     ensures read { IfOk result (λ i. image_of mems.now text.now ≡ Ok i) }
     ensures refused { IfErr result (IsRefusal (image_of mems.now text.now)) }

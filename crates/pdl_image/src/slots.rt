@@ -2,13 +2,14 @@
 ghost use Rattle.std.specs.Prelude.{IfOk, None, Some, is_some, length, slice_index_or, slice_set, unwrap_or, map, replicate, ◌<◌, ◌≡◌};
 
 use pdl_kit::{NoMemory, Seq};
+use pdl_word::Word;
 use std::alloc::Global;
 use std::marker::Model;
 
 /// The value that each address of a memory has been given, if any.
 #[derive(Drop)]
 pub struct Slots {
-    values: Vec<Option<u64>>,
+    values: Vec<Option<Word>>,
 }
 
 impl Model for Slots {
@@ -38,7 +39,7 @@ impl Slots {
     }
 
     /// Gives an address its value.
-    pub fn give(&mut self, address: usize, value: u64)
+    pub fn give(&mut self, address: usize, value: Word)
         requires { address < length self.old }
         ensures { self.new ≡ slice_set self.old address (Some value) }
     {
@@ -46,7 +47,7 @@ impl Slots {
     }
 
     /// The values, 0 where none was given.
-    pub fn words(&self, alloc: Global) -> Result<Seq<u64>, NoMemory>
+    pub fn words(&self, alloc: Global) -> Result<Seq<Word>, NoMemory>
         ensures { IfOk result (λ w. w ≡ map (λ o. unwrap_or o 0) self.now) }
     {
         let words = self

@@ -3,14 +3,14 @@ ghost use Rattle.std.specs.Prelude.{MatchOption, None, Some, ◌≡◌};
 ghost use Rattle.pdl_image.specs.Images.{says_nothing as says_nothing_of, word_of};
 
 use crate::fields::{is_name, split_field};
-use pdl_word::read_digits;
+use pdl_word::{MOST_HEX, Word, read_digits};
 
 /// A word that a line gives: the memory's name, the address and the value.
 #[derive(Clone, Copy)]
-pub struct Word<'a> {
+pub struct LineWord<'a> {
     pub name: &'a [u8],
     pub address: u64,
-    pub value: u64,
+    pub value: Word,
 }
 
 /// Whether a line is empty or a comment.
@@ -22,7 +22,7 @@ pub fn says_nothing(line: &[u8]) -> bool
 
 /// The word that a line of the form `<mem> <address> <hex>` gives.
 #[tactic(auto, using(crate::proofs::LineWords::one_part, crate::proofs::LineWords::two_parts, crate::proofs::LineWords::no_name, crate::proofs::LineWords::no_address, crate::proofs::LineWords::no_value, crate::proofs::LineWords::word_found))]
-pub fn read_word(line: &[u8]) -> Option<Word<'_>>
+pub fn read_word(line: &[u8]) -> Option<LineWord<'_>>
     ensures { MatchOption result (word_of line.now ≡ None) (λ w. word_of line.now
         ≡ Some (record { name = w.name.now; address = w.address; value = w.value })) }
 {
@@ -31,9 +31,9 @@ pub fn read_word(line: &[u8]) -> Option<Word<'_>>
     if !is_name(name) {
         return None;
     }
-    Some(Word {
+    Some(LineWord {
         name,
         address: read_digits(address, 10, 10)? as u64,
-        value: read_digits(value, 16, 16)? as u64,
+        value: read_digits(value, 16, MOST_HEX)? as Word,
     })
 }

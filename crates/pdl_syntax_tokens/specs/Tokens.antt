@@ -7,6 +7,7 @@ use Rattle.pdl_syntax_tokens.specs.declared.token.Mark.{Mark}
 use Rattle.pdl_syntax_tokens.specs.declared.token.Mark.TheVariants as mark
 use Rattle.pdl_syntax_tokens.specs.declared.token.TokenKind.{TokenKind}
 use Rattle.pdl_syntax_tokens.specs.declared.token.TokenKind.TheVariants as kind
+use Rattle.pdl_word.specs.Words.{widest}
 
 -- a token: what it is, its bytes, and where they stand
 pub record Token : Type 0 where
@@ -107,9 +108,9 @@ value_from base v (c ∷ cs) = value_from base (v * base + digit_value c) cs
 abbrev pub value_of : ℕ → List ℕ → ℕ
 value_of base digits = value_from base 0 digits
 
--- the value where it fits 64 bits
+-- the value where it fits the widest word
 abbrev pub fitting : ℕ → Option ℕ
-fitting v = cond (nat_lt v (2 ^ 64)) (Some v) None
+fitting v = cond (nat_lt v (2 ^ widest)) (Some v) None
 
 -- ---- pieces
 

@@ -1,5 +1,5 @@
 use Rattle.std.proofs.Common.{ℕ, sym, ap, get_or, List, Option}
-use Rattle.pdl_image.specs.Images.{Word}
+use Rattle.pdl_image.specs.Images.{LineWord}
 use Rattle.pdl_image.proofs.LineSteps.{IsNamed, nothing_taken, no_form, no_memory, word_follows}
 use Rattle.pdl_image.proofs.read.take_line.Goals as goal
 
@@ -14,7 +14,7 @@ returns-in_default-place_of c = λ before e. no_memory _ before _ _ (sym c.if-sa
 
 pub returns : goal.returns
 returns c = λ before e.
-    let w : Word = record { name = c.in-Some.word.name.now; address = c.in-Some.word.address; value = c.in-Some.word.value } in
+    let w : LineWord = record { name = c.in-Some.word.name.now; address = c.in-Some.word.address; value = c.in-Some.word.value } in
     let row : List (Option ℕ) = get_or c.args.slots.now c.in-Some-place_of.place c.index-slots-place.result in
     let f : IsNamed c.args.mems.now before c.args.line.now w c.in-Some-place_of.place c.index-mems-place.result row c.args.slots.now = record {
       said = sym c.if-says_nothing.ensures;
