@@ -34,6 +34,6 @@ pub fn read_word(line: &[u8]) -> Option<LineWord<'_>>
     Some(LineWord {
         name,
         address: read_digits(address, 10, 10)? as u64,
-        value: read_digits(value, 16, MOST_HEX)? as Word,
+        value: read_digits(value, 16, MOST_HEX)?,
     })
 }

@@ -33,7 +33,7 @@ fn push_port<S: Sink>(
     if !changed {
         return Ok(());
     }
-    let line = change_line(u128::from(value), ports[i].width, i);
+    let line = change_line(value, ports[i].width, i);
     out.push(sink, line.as_bytes())
 }
 

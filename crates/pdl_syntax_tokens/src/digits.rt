@@ -6,7 +6,7 @@ ghost use Rattle.pdl_syntax_tokens.specs.DigitValues.{with_digit};
 
 use crate::bytes::{digit_length, hex_length, is_digit, is_hex};
 use crate::token::TokenKind;
-use pdl_word::Word;
+use pdl_word::{MOST_DECIMAL, MOST_HEX, Word};
 
 // The value of a digit of base 10 or 16.
 fn digit_value(c: u8) -> Word
@@ -54,12 +54,19 @@ pub fn number_kind(digits: &[u8]) -> TokenKind
     }
 }
 
-/// A literal: a number for its width, and at most 20 digits in a base.
+// How many digits of a base a literal may have.
+fn most_digits(base: Word) -> usize
+    ensures { result ≡ spec.most_digits base }
+{
+    if base == 16 { MOST_HEX } else { MOST_DECIMAL }
+}
+
+/// A literal: a number for its width, and digits in a base, at most `MOST_HEX` in base 16 and else at most `MOST_DECIMAL`.
 pub fn literal_kind(width: &[u8], base: Word, digits: &[u8]) -> TokenKind
     requires { 1 ≤ base }
     ensures { result ≡ spec.literal_kind width.now base digits.now }
 {
-    if digits.len() > 20 {
+    if digits.len() > most_digits(base) {
         return TokenKind::Bad;
     }
     match number_kind(width) {

@@ -42,10 +42,7 @@ fn hex_part(text: &[u8]) -> Option<Word>
     if !text.starts_with(b"'h") {
         return None;
     }
-    match read_digits(&text[2..], 16, MOST_HEX) {
-        Some(value) => Some(value as Word),
-        None => None,
-    }
+    read_digits(&text[2..], 16, MOST_HEX)
 }
 
 /// The constant that a number of 1 to 6 decimal digits, `'h` and 1 to `MOST_HEX` lower hexadecimal digits write.

@@ -5,7 +5,11 @@ use Rattle.std.specs.List.{list_all}
 
 -- the most hexadecimal digits that a word is written with
 abbrev pub most_hex : ℕ
-most_hex = 16
+most_hex = 32
+
+-- the most decimal digits that a word is written with
+abbrev pub most_decimal : ℕ
+most_decimal = 39
 
 -- a digit of a base up to 36, where a letter is a lower one
 abbrev pub is_digit_of : ℕ → ℕ → Bool

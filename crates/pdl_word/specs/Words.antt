@@ -3,7 +3,7 @@ use Rattle.std.specs.Prelude.{ℕ, zero, suc, ◌+◌, ◌-◌, ◌*◌, ◌/◌
 
 -- the greatest width of a word, in bits
 abbrev pub widest : ℕ
-widest = 64
+widest = 128
 
 -- 1 where the test passes, else 0
 abbrev pub bit : Bool → ℕ

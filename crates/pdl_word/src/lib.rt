@@ -15,13 +15,16 @@ mod numerals;
 pub use numerals::{hex_digit, read_digits};
 
 /// The value of a word, whatever its width.
-pub type Word = u64;
+pub type Word = u128;
 
 /// The greatest width of a word, in bits.
-pub const WIDEST: u8 = 64;
+pub const WIDEST: u8 = 128;
 
 /// The most hexadecimal digits that a word is written with.
-pub const MOST_HEX: usize = 16;
+pub const MOST_HEX: usize = 32;
+
+/// The most decimal digits that a word is written with.
+pub const MOST_DECIMAL: usize = 39;
 
 /// The largest word of `width` bits, all of them 1.
 #[tactic(auto, using(crate::proofs::Masks::one_shifted), unfolding(crate::specs::Words::mask))]
