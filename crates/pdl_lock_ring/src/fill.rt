@@ -14,6 +14,7 @@ use pdl_build::Builder;
 use pdl_kit::NoMemory;
 use pdl_lockapi::{LockPorts, TicketWrite};
 use pdl_net::{BinOp, Net};
+use pdl_word::Word;
 
 /// The write port of a number.
 pub fn write_port(p: &LockPorts, j: usize) -> TicketWrite
@@ -40,7 +41,7 @@ fn emit_takes(
         Means b.new x.1 (takes_second l (step_signals b.old p.now) k)) }
     ensures extends { Extends b.old b.new }
 {
-    let place = b.constant(l.ticket, k as u64)?;
+    let place = b.constant(l.ticket, k as Word)?;
     let first = b.bin(BinOp::Eq, t.first_slot, place)?;
     let second = b.bin(BinOp::Eq, t.second_slot, place)?;
     Ok((first, second))
@@ -122,7 +123,7 @@ fn emit_match(
     ensures extends { Extends b.old b.new }
 {
     let written = emit_written(b, l, p, j)?;
-    let place = b.constant(l.ticket, k as u64)?;
+    let place = b.constant(l.ticket, k as Word)?;
     b.bin(BinOp::Eq, written, place)
 }
 

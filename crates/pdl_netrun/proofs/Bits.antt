@@ -3,7 +3,7 @@ use Rattle.std.proofs.Common.{◌≡◌, refl, sym, ap, ap₂, ◌∙◌, ℕ, z
 use Rattle.std.proofs.lemmas.Nat.{mod-pow-add, shl-shr, pow_pos}
 use Rattle.std.proofs.Math.Nat.{mul-mod_left, mul-suc, add-mul-mod_self_left, mod-eq_of_lt, pow-succ'}
 use Rattle.pdl_word.specs.Words.{mask, add, sub, mul, shl, shr, slice, rep}
-use Rattle.pdl_word.proofs.Masks.{mod_of_64, and_with_mask}
+use Rattle.pdl_word.proofs.Masks.{mod_of_lowest, and_with_mask}
 use Rattle.pdl_word.proofs.Shifts.{shl_within, shr_within}
 
 -- what is shifted out at the top and back is gone
@@ -19,12 +19,12 @@ top_off n w h =
 -- the lowest w bits of a sum of 64 bits are the sum of w bits
 pub added : (w a b : ℕ) → w ≤ 64 → (a + b) % 2 ^ 64 % 2 ^ w ≡ add w a b
 unfolding add
-added w a b h = mod_of_64 (a + b) w h
+added w a b h = mod_of_lowest 64 (a + b) w h
 
 -- the lowest w bits of a product of 64 bits are the product of w bits
 pub multiplied : (w a b : ℕ) → w ≤ 64 → a * b % 2 ^ 64 % 2 ^ w ≡ mul w a b
 unfolding mul
-multiplied w a b h = mod_of_64 (a * b) w h
+multiplied w a b h = mod_of_lowest 64 (a * b) w h
 
 -- a sum of 64 bits cut to w of them
 pub sum_cut : (w a b m : ℕ) → m ≡ mask w → w ≤ 64 → bit_and ((a + b) % 2 ^ 64) m ≡ add w a b
@@ -68,7 +68,7 @@ subtracted w a b h l =
     go (suc r) p z =
         let m : 2 ^ w * suc r ≡ 2 ^ w * r + 2 ^ w = mul-suc (2 ^ w) r in
         let f : a + (2 ^ 64 - b) ≡ (a + 2 ^ w - b) + 2 ^ w * r = omega (arith, p, m, l) in
-        mod_of_64 (a + (2 ^ 64 - b)) w h ∙ ap (λ x. x % 2 ^ w) f ∙ add-mul-mod_self_left (a + 2 ^ w - b) (2 ^ w) r
+        mod_of_lowest 64 (a + (2 ^ 64 - b)) w h ∙ ap (λ x. x % 2 ^ w) f ∙ add-mul-mod_self_left (a + 2 ^ w - b) (2 ^ w) r
 
 -- a difference of 64 bits cut to w of them
 pub difference_cut : (w a b m : ℕ) → m ≡ mask w → w ≤ 64 → b < 2 ^ w → bit_and ((a + (2 ^ 64 - b)) % 2 ^ 64) m ≡ sub w a b
@@ -78,7 +78,7 @@ difference_cut w a b m e h l = and_with_mask ((a + (2 ^ 64 - b)) % 2 ^ 64) w m e
 pub moved_up : (w a b : ℕ) → w ≤ 64 → b < w → a * 2 ^ (b % 64) % 2 ^ 64 % 2 ^ w ≡ shl w a b
 moved_up w a b h l =
     let m : b % 64 ≡ b = mod-eq_of_lt (omega arith) in
-    ap (λ k. a * 2 ^ k % 2 ^ 64 % 2 ^ w) m ∙ mod_of_64 (a * 2 ^ b) w h ∙ sym (shl_within w a b l)
+    ap (λ k. a * 2 ^ k % 2 ^ 64 % 2 ^ w) m ∙ mod_of_lowest 64 (a * 2 ^ b) w h ∙ sym (shl_within w a b l)
 
 -- a shift down of 64 bits is one of w bits, where it is by less than w
 pub moved_down : (w a b : ℕ) → w ≤ 64 → b < w → a / 2 ^ (b % 64) ≡ shr w a b
