@@ -34,11 +34,12 @@ joined ts (u ∷ []) e h =
     let n : length (ts ++ u ∷ []) ≡ length ts + 1 = length-append ts (u ∷ []) in
     let some : leb 1 (length (ts ++ u ∷ [])) ≡ true = le-leb 1 (length (ts ++ u ∷ [])) (omega (arith, n)) in
     let few : leb (length (ts ++ u ∷ [])) 39 ≡ leb (length ts) 38 = ap (λ k. leb k 39) n ∙ few_same (length ts) in
-    let before : leb 1 (length ts) ≡ true = le-leb 1 (length ts) h in
-    (ap₂ (λ x y. x && y) (list_all-append (is_digit_of 10) ts (u ∷ [])) (ap₂ (λ x y. x && y) some few)
-    ∙ swapped (list_all (is_digit_of 10) ts) (list_all (is_digit_of 10) (u ∷ [])) (leb (length ts) 38)
-    ∙ ap (λ b. (list_all (is_digit_of 10) ts && (b && leb (length ts) 38)) && are_digits 10 1 (u ∷ [])) (sym before),
-    (let p = digits_value_push 10 ts u in let q = digits_value_push 10 [] u in omega (arith, p, q)))
+    let before : leb 1 (length ts) ≡ true = le-leb 1 (length ts) h in (
+      ap₂ (λ x y. x && y) (list_all-append (is_digit_of 10) ts (u ∷ [])) (ap₂ (λ x y. x && y) some few)
+          ∙ swapped (list_all (is_digit_of 10) ts) (list_all (is_digit_of 10) (u ∷ [])) (leb (length ts) 38)
+          ∙ ap (λ b. (list_all (is_digit_of 10) ts && (b && leb (length ts) 38)) && are_digits 10 1 (u ∷ [])) (sym before),
+      (let p = digits_value_push 10 ts u in let q = digits_value_push 10 [] u in omega (arith, p, q)),
+    )
 
 -- the digits of a text before its last one
 abbrev pub first_of : List ℕ → ℕ → List ℕ

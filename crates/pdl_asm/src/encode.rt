@@ -6,8 +6,8 @@ ghost use Rattle.pdl_asm.specs.Assembly.{insn_word as insn_word_of, line_word as
 ghost use Rattle.pdl_word.specs.Words.{widest};
 
 use crate::line::{AssemblyLine, Operand, Operands, Operation};
-use crate::whole::Whole;
 use crate::values::{argument_value, field_bits, in_word};
+use crate::whole::Whole;
 use pdl_asm_table::{Arg, Dictionary, Insn, Table};
 use pdl_kit::Name;
 use pdl_word::Word;

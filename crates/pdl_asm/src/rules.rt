@@ -6,8 +6,8 @@ ghost use Rattle.pdl_asm.specs.Assembly.{free_rule, insn_rule as insn_rule_of, i
 ghost use Rattle.pdl_word.specs.Words.{widest};
 
 use crate::line::{AssemblyLine, Operand, Operands, Operation};
-use crate::whole::Whole;
 use crate::values::{argument_value, in_word};
+use crate::whole::Whole;
 use pdl_asm_table::{Arg, Dictionary, Insn, Table};
 use pdl_kit::{Name, Rule};
 use pdl_word::Word;

@@ -17,5 +17,9 @@ pub fn ones(bits: u8) -> Word
     requires { bits ≤ widest }
     ensures { result ≡ 2 ^ bits - 1 }
 {
-    if bits == WIDEST { Word::MAX } else { (1 << bits) - 1 }
+    if bits == WIDEST {
+        Word::MAX
+    } else {
+        (1 << bits) - 1
+    }
 }

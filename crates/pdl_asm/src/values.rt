@@ -5,8 +5,8 @@ ghost use Rattle.pdl_asm.specs.Values.{amount as amount_of, argument_value as ar
 ghost use Rattle.pdl_word.specs.Words.{widest};
 
 use crate::line::Operand;
-use crate::whole::Whole;
 use crate::sign::{has_bits, ones};
+use crate::whole::Whole;
 use pdl_asm_table::{Arg, ArgumentKind, Dictionary, Table};
 use pdl_kit::Rule;
 use pdl_word::Word;
@@ -18,7 +18,11 @@ fn unsigned_field(field: u8, number: &Whole) -> Option<Word>
     ensures { result ≡ unsigned_of field number.now }
 {
     let word = number.to_word()?;
-    if has_bits(word, field) { Some(word) } else { None }
+    if has_bits(word, field) {
+        Some(word)
+    } else {
+        None
+    }
 }
 
 // A number in two's complement in a field of so many bits: -2^(f-1) to 2^(f-1) - 1.
@@ -30,10 +34,18 @@ fn signed_field(field: u8, number: &Whole) -> Option<Word>
     let half = field.saturating_sub(1);
     if number.is_negative() {
         let word = number.complement().to_word()?;
-        return if has_bits(word, half) { Some(ones(field) - word) } else { None };
+        return if has_bits(word, half) {
+            Some(ones(field) - word)
+        } else {
+            None
+        };
     }
     let word = number.to_word()?;
-    if has_bits(word, half) { Some(word) } else { None }
+    if has_bits(word, half) {
+        Some(word)
+    } else {
+        None
+    }
 }
 
 /// A number in a word of so many bits: -2^(bits-1) to 2^bits - 1.

@@ -100,7 +100,9 @@ impl Whole {
         if self.tens < 0 {
             return None;
         }
-        (self.tens as u128).checked_mul(10)?.checked_add(u128::from(self.units))
+        (self.tens as u128)
+            .checked_mul(10)?
+            .checked_add(u128::from(self.units))
     }
 
     /// Its value as an address, 0 to 65,535, if it is one.
@@ -108,7 +110,11 @@ impl Whole {
         ensures { result ≡ address_of self.now }
     {
         let word = self.to_word()?;
-        if word < 65_536 { Some(word as usize) } else { None }
+        if word < 65_536 {
+            Some(word as usize)
+        } else {
+            None
+        }
     }
 
     /// The next number.

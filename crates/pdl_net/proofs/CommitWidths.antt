@@ -130,11 +130,13 @@ module _ (c : Circuit) (s : State) (w : IsWell c) (t : Suits c s) (name : List �
         | In ↦ (λ e. rest)
         | Out x ↦ (λ e.
             let g = subst (λ (d : Dir). IsDriven c q.width d) e h.driven in
-            let b = bounded c s w t x g.0 in
-            ((λ same.
-                let fits : net_value c s x < 2 ^ q.width = subst (λ k. net_value c s x < 2 ^ k) g.1 b.fits in
-                let more : 2 ^ q.width ≤ 2 ^ bits = pow_mono (f (ap is_input e) same) in
-                omega (arith, fits, more)), rest))
+            let b = bounded c s w t x g.0 in (
+              (λ same.
+                  let fits : net_value c s x < 2 ^ q.width = subst (λ k. net_value c s x < 2 ^ k) g.1 b.fits in
+                  let more : 2 ^ q.width ≤ 2 ^ bits = pow_mono (f (ap is_input e) same) in
+                  omega (arith, fits, more)),
+              rest,
+            ))
       ]) refl
 
   outputs_fit : (ps : List Port) → ((k : ℕ) (q : Port) → slice_get ps k ≡ Some q → IsWellPort c q)

@@ -19,6 +19,11 @@ fn is_commit(alloc: Global, text: &[u8]) -> bool {
 
 #[test]
 fn prints_lines(rt: HostRuntime) {
-    assert!(rt; is_commit(rt.alloc(), b"1000000 m 65535 ffffffffffffffffffffffffffffffff\n"));
+    assert!(rt;
+        is_commit(
+            rt.alloc(),
+            b"1000000 m 65535 ffffffffffffffffffffffffffffffff\n"
+        )
+    );
     assert!(rt; accepted_line(6, 5).as_bytes() == b"accepted stages 6 depth 5\n".as_slice());
 }
