@@ -1,6 +1,9 @@
 pub mod Words
 pub mod Bits
 pub mod Steps
+pub mod Fronts
+pub mod NarrowLists
+pub mod NarrowNets
 pub mod Orders
 pub mod PlanLemmas
 pub mod Values
