@@ -5,7 +5,8 @@ use Rattle.std.proofs.lemmas.List.{get_or-map, get_or_default, length-map}
 use Rattle.std.proofs.Math.Nat.{pow-le-pow_right}
 use Rattle.pdl_net.specs.declared.Netlist.{Netlist}
 use Rattle.pdl_net.specs.Circuit.{circuit_of, inputs_of}
-use Rattle.pdl_net.specs.Run.{answers, delayed_mems, next_stores}
+use Rattle.pdl_kit.specs.declared.mem_info.MemInfo.{MemInfo}
+use Rattle.pdl_net.specs.Run.{answers, delayed_mems, mem_at, next_stores, no_mem, value_at}
 use Rattle.pdl_net.specs.Cycle.{output_values, next_regs, next_arrays}
 use Rattle.pdl_net.specs.Holds.{Holds}
 use Rattle.pdl_net.proofs.Holds.{next_holds}
@@ -15,6 +16,8 @@ use Rattle.pdl_netrun.specs.Held.{AreSmall, HeldLists, PlanFits, after_plan, bit
 use Rattle.pdl_netrun.specs.Order.{first_place, AllEarly}
 use Rattle.pdl_netrun.specs.Plan.{HasValues, HasConstants}
 use Rattle.pdl_netrun.specs.declared.outside.Outside.{Outside}
+use Rattle.pdl_netrun.specs.declared.places.MemoryPlaces.{MemoryPlaces}
+use Rattle.pdl_netrun.specs.Places.{places_of}
 use Rattle.pdl_netrun.specs.Outside.{AreOutside, AddressesSeen, WordsFit, stores_of, stores_after}
 use Rattle.pdl_netrun.specs.Inside.{IsReady, run_of, seen_at}
 use Rattle.pdl_netrun.proofs.Arrays.{arrays_written, writes_fit}
@@ -191,19 +194,34 @@ seen_now a bits r vs f =
 
 -- OUTPUTS
 
--- the places of the outputs' nets are among those of the values
-pub drivers_now : (a : Inside) → IsReady a → (ps vs : List ℕ) → ps ≡ a.drivers.items → vs ≡ (held_lists a.held).values → AreBelow (length vs) ps
-drivers_now a r ps vs e f =
+-- the place of an output's net is among those of the values
+pub driver_now : (a : Inside) → IsReady a → (i x : ℕ) → i < length a.drivers.items → x ≡ slice_index a.drivers.items i
+    → x < length (held_lists a.held).values
+driver_now a r i x l e =
     let m = r.room in
-    let b = drivers_below (circuit_of a.net.now) r.well r.places (length (held_lists a.held).values) r.all (omega (arith, m)) ps (e ∙ r.drivers) in
-    subst (λ (xs : List ℕ). AreBelow (length xs) ps) (sym f) b
+    let b =
+    drivers_below (circuit_of a.net.now) r.well r.places (length (held_lists a.held).values) r.all (omega (arith, m)) a.drivers.items r.drivers i 0 l in
+    omega (arith, b, e)
 
 -- the value of an output in the last cycle
-pub port_now : (a : Inside) (ps vs : List ℕ) (i n : ℕ)
-    → i < length ps → ps ≡ a.drivers.items → vs ≡ (held_lists a.held).values → a.shown ≡ true
-    → n ≡ slice_index vs (slice_index ps i) → n ≡ slice_index (run_of a).last.ports i
-port_now a ps vs i n l e f b g =
-    g ∙ sym (get_or-map (slice_index vs) ps i 0 0 l)
-    ∙ ap (λ xs. slice_index (map (slice_index vs) xs) i) e
-    ∙ ap (λ xs. slice_index (map (slice_index xs) a.drivers.items) i) f
+pub port_now : (a : Inside) (i x n : ℕ) → i < length a.drivers.items → x ≡ slice_index a.drivers.items i → a.shown ≡ true
+    → n ≡ slice_index (held_lists a.held).values x → n ≡ slice_index (run_of a).last.ports i
+port_now a i x n l e b g =
+    g ∙ ap (slice_index (held_lists a.held).values) e
+    ∙ sym (get_or-map (slice_index (held_lists a.held).values) a.drivers.items i 0 0 l)
     ∙ ap (λ x. slice_index (seen_at x (held_lists a.held).values a.drivers.items) i) (sym b)
+
+-- the addresses of what a memory committed have at most 16 bits
+pub addresses_now : (a : Inside) → IsReady a → (m : ℕ) (p : MemoryPlaces) → m < length a.net.now.mems → p ≡ get_or a.commits.items m p
+    → (value_at (run_of a).last.ports p.first.addr < 2 ^ 64) × (value_at (run_of a).last.ports p.second.addr < 2 ^ 64)
+addresses_now a r m p l e =
+    let c = circuit_of a.net.now in
+    let ports = (run_of a).last.ports in
+    let name = (mem_at a.net.now m).name in
+    let q : p ≡ places_of c name =
+    e ∙ ap (λ (xs : List MemoryPlaces). get_or xs m p) r.commits ∙ get_or-map (λ (i : MemInfo). places_of c i.name) a.net.now.mems m no_mem p l in
+    let s = r.seen name in
+    let P : MemoryPlaces → Type 0 = λ x. (value_at ports x.first.addr < 2 ^ 64) × (value_at ports x.second.addr < 2 ^ 64) in
+    let s0 = s.0 in
+    let s1 = s.1 in
+    subst P (sym q) (omega (arith, s0), omega (arith, s1))

@@ -11,5 +11,6 @@ pub mod Arrays
 pub mod Environment
 pub mod Reset
 pub mod SimCycle
+pub mod CycleParts
 pub mod Cycles
 pub mod Sample

@@ -1,5 +1,5 @@
 -- Netlists in which no net and no array has more than so many bits.
-use Rattle.std.proofs.Common.{◌≡◌, sym, ap, ◌∙◌, subst, ℕ, zero, suc, ◌^◌, ◌<◌, ◌≤◌, List, [], ◌∷◌, ◌++◌, length, get_or, filter_map, map, replicate, All, arith}
+use Rattle.std.proofs.Common.{◌≡◌, refl, Bool, true, false, if◌then◌else◌, sym, ap, ◌∙◌, subst, ℕ, zero, suc, ◌^◌, ◌<◌, ◌≤◌, List, [], ◌∷◌, ◌++◌, length, get_or, filter_map, map, replicate, All, arith}
 use Rattle.std.specs.List.{cons_option}
 use Rattle.std.proofs.Math.Nat.{pow-le-pow_right}
 use Rattle.pdl_word.specs.Words.{widest}
@@ -57,3 +57,8 @@ unfolding signal
 width_within bits c h (Input i) l = h.inputs i l
 width_within bits c h (RegNet r) l = h.regs r l
 width_within bits c h (CellNet k) l = h.cells k l
+
+-- nor has one more than so many bits as are held
+pub within_bits : (b : Bool) (c : Circuit) (bits : ℕ) → IsWell c → (b ≡ true → AreWithin 64 c) → bits ≡ (if b then 64 else widest) → AreWithin bits c
+within_bits true c bits w f e = subst (λ (n : ℕ). AreWithin n c) (sym e) (f refl)
+within_bits false c bits w f e = subst (λ (n : ℕ). AreWithin n c) (sym e) (within_widest c w)
