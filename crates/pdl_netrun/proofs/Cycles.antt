@@ -83,8 +83,8 @@ plan_fits a bits r =
     let next = next_count a r in
     let first_reg = r.plan.first_reg in
     let first_cell = r.plan.first_cell in
-    let steps : length (steps_of a.plan.runs.items) ≡ length r.order = ap length r.plan.runs ∙ simp length-map in
-    let nexts : length a.plan.nexts.items ≡ length a.net.now.regs = ap length r.plan.nexts ∙ simp length-map in
+    let steps : length (steps_of a.plan.runs.items) ≡ length r.order = ap length r.plan.runs ∙ length-map r.order _ in
+    let nexts : length a.plan.nexts.items ≡ length a.net.now.regs = ap length r.plan.nexts ∙ length-map a.net.now.regs _ in
     record {
       small = inputs_small a bits r;
       inputs = omega (arith, inputs, room);
