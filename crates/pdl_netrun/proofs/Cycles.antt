@@ -87,7 +87,7 @@ plan_fits a bits r =
     let nexts : length a.plan.nexts.items ≡ length a.net.now.regs = ap length r.plan.nexts ∙ length-map a.net.now.regs _ in
     record {
       small = inputs_small a bits r;
-      inputs = omega (arith, inputs, room);
+      front = omega (arith, inputs, room);
       regs = omega (arith, first_reg, next, answered, room);
       cells = omega (arith, first_cell, steps, begun, room);
       fit = (walked_now a bits r).fit;

@@ -6,9 +6,19 @@ use Rattle.pdl_netrun.specs.declared.operation.CellKind.{CellKind}
 use Rattle.pdl_netrun.specs.declared.operation.CellKind.TheVariants as kinds
 use Rattle.pdl_netrun.specs.declared.operation.CellOperands.{CellOperands}
 use Rattle.pdl_netrun.specs.declared.walk.CellRun.{CellRun}
-use Rattle.pdl_netrun.specs.RunKinds.{kind_in}
+use Rattle.pdl_netrun.specs.RunKinds.{is_constant, kind_in}
+use Rattle.pdl_netrun.specs.declared.run_kind.RunKind.{RunKind}
+use Rattle.pdl_netrun.specs.declared.run_kind.RunKind.TheVariants.{Taking, Testing, Counting}
+use Rattle.pdl_netrun.specs.declared.run_kind.TakingKind.TheVariants.{Word, Part}
+use Rattle.pdl_netrun.specs.declared.run_kind.TestingKind.TheVariants.{Compare, Combine}
+use Rattle.pdl_netrun.specs.declared.run_kind.CountingKind.TheVariants.{Count, Turn}
+use Rattle.pdl_netrun.specs.declared.run_kind.WordKind.TheVariants as word
+use Rattle.pdl_netrun.specs.declared.run_kind.PartKind.TheVariants as part
+use Rattle.pdl_netrun.specs.declared.run_kind.CompareKind.TheVariants as compare
+use Rattle.pdl_netrun.specs.declared.run_kind.CombineKind.TheVariants as combine
+use Rattle.pdl_netrun.specs.declared.run_kind.CountKind.TheVariants as count
+use Rattle.pdl_netrun.specs.declared.run_kind.TurnKind.TheVariants as turn
 use Rattle.pdl_netrun.specs.declared.writes.PlannedWrite.{PlannedWrite}
-use Rattle.pdl_netrun.specs.Kinds.{is_constant}
 use Rattle.pdl_netrun.specs.Steps.{Step, KindFits, StepsFit, steps_with, steps_of, after_kind, kind_value, after_step, after_steps, after_write, after_all}
 
 -- CELLS OF ONE KIND
@@ -43,10 +53,26 @@ pub cells_all : (kind : CellKind) (os : List CellOperands) (first k : ℕ) (vs :
 cells_all kind os first k vs ws h = ap (λ l. after_steps (steps_with kind l) (first + k) vs ws) (drop_all k os h)
 
 -- a cell that is no constant gives its place its value
-pub given : (kind : CellKind) (o : CellOperands) (at : ℕ) (vs : List ℕ) (ws : List (List ℕ))
-    → is_constant kind ≡ false → after_kind kind o at vs ws ≡ set vs at (kind_value kind o vs ws)
-given kinds.Constant o at vs ws e = absurd cc
-given _ o at vs ws e = refl
+pub given : (kind : RunKind) (o : CellOperands) (at : ℕ) (vs : List ℕ) (ws : List (List ℕ))
+    → is_constant kind ≡ false → after_kind (kind_in kind) o at vs ws ≡ set vs at (kind_value (kind_in kind) o vs ws)
+given (Taking (Word word.Constant)) o at vs ws e = absurd cc
+given (Taking (Word word.Choose)) o at vs ws e = refl
+given (Taking (Word word.Look)) o at vs ws e = refl
+given (Taking (Part part.Slice)) o at vs ws e = refl
+given (Taking (Part part.Join)) o at vs ws e = refl
+given (Taking (Part part.Repeat)) o at vs ws e = refl
+given (Testing (Compare compare.Equal)) o at vs ws e = refl
+given (Testing (Compare compare.Differ)) o at vs ws e = refl
+given (Testing (Compare compare.Less)) o at vs ws e = refl
+given (Testing (Combine combine.And)) o at vs ws e = refl
+given (Testing (Combine combine.Or)) o at vs ws e = refl
+given (Testing (Combine combine.Xor)) o at vs ws e = refl
+given (Counting (Count count.Add)) o at vs ws e = refl
+given (Counting (Count count.Sub)) o at vs ws e = refl
+given (Counting (Count count.Mul)) o at vs ws e = refl
+given (Counting (Turn turn.Complement)) o at vs ws e = refl
+given (Counting (Turn turn.ShiftLeft)) o at vs ws e = refl
+given (Counting (Turn turn.ShiftRight)) o at vs ws e = refl
 
 -- RUNS
 

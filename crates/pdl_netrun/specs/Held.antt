@@ -92,7 +92,7 @@ after_plan p inputs h = record {
 -- a cycle with these inputs finds room and words of no more than so many bits, wherever it puts and takes them
 pub record PlanFits (bits : ℕ) (p : CyclePlan) (inputs : List ℕ) (h : HeldLists) : Type 0 where
   pub small : AreSmall bits inputs
-  pub inputs : 0 + length inputs ≤ length h.values
+  pub front : 0 + length inputs ≤ length h.values
   pub regs : p.first_reg + length h.next ≤ length (put_at 0 h.values inputs)
   pub cells : p.first_cell + length (steps_of p.runs.items) ≤ length (begun_with p inputs h)
   pub fit : StepsFit bits (steps_of p.runs.items) p.first_cell (begun_with p inputs h) h.arrays

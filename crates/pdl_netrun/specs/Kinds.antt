@@ -1,5 +1,4 @@
 -- The kind of a cell.
-use Rattle.std.specs.Prelude.{Bool, true, false}
 use Rattle.pdl_net.specs.declared.BinOp.{BinOp}
 use Rattle.pdl_net.specs.declared.BinOp.TheVariants as op
 use Rattle.pdl_net.specs.declared.Cell.{Cell}
@@ -31,8 +30,3 @@ cell_kind (cell.Slice a high low) = Slice
 cell_kind (cell.Cat a b) = Join
 cell_kind (cell.Rep k a) = Repeat
 cell_kind (cell.Read m a) = Look
-
--- whether a kind is that of constants
-abbrev pub is_constant : CellKind → Bool
-is_constant Constant = true
-is_constant _ = false

@@ -2,8 +2,7 @@
 
 ghost use Rattle.std.specs.Prelude.{◌≡◌, ◌+◌, ◌<◌, ◌≤◌, length, slice_index, slice_index_or, []};
 ghost use Rattle.pdl_word.specs.Words.{widest};
-ghost use Rattle.pdl_netrun.specs.RunKinds.{kind_in};
-ghost use Rattle.pdl_netrun.specs.Kinds.{is_constant as is_of_constants};
+ghost use Rattle.pdl_netrun.specs.RunKinds.{is_constant as is_of_constants, kind_in};
 ghost use Rattle.pdl_netrun.specs.declared.run_kind.RunKind.TheVariants.{Taking, Testing, Counting};
 ghost use Rattle.pdl_netrun.specs.Steps.{IsAddress, IsChoice, KindFits, StepsFit, kind_value, steps_with, steps_of, after_steps, array_words};
 
@@ -161,7 +160,7 @@ fn value(kind: RunKind, operands: &CellOperands, values: &[Word], arrays: &[Vec<
 
 /// Whether the cells of a run are constants, whose values stand.
 fn is_constant(kind: RunKind) -> bool
-    ensures { result ≡ is_of_constants (kind_in kind) }
+    ensures { result ≡ is_of_constants kind }
 {
     match kind {
         RunKind::Taking(TakingKind::Word(WordKind::Constant)) => true,
