@@ -1,7 +1,6 @@
 -- Netlists in which no net and no array has more than so many bits.
-use Rattle.std.proofs.Common.{◌≡◌, refl, Bool, true, false, if◌then◌else◌, sym, ap, ◌∙◌, subst, ℕ, zero, suc, ◌^◌, ◌<◌, ◌≤◌, List, [], ◌∷◌, ◌++◌, length, get_or, filter_map, map, replicate, All, arith}
+use Rattle.std.proofs.Common.{◌≡◌, refl, Bool, true, false, if◌then◌else◌, sym, subst, ℕ, zero, suc, ◌<◌, ◌≤◌, List, [], ◌∷◌, length, get_or, filter_map, All, arith}
 use Rattle.std.specs.List.{cons_option}
-use Rattle.std.proofs.Math.Nat.{pow-le-pow_right}
 use Rattle.pdl_word.specs.Words.{widest}
 use Rattle.pdl_net.specs.declared.Net.{Net}
 use Rattle.pdl_net.specs.declared.Net.TheVariants.{Input, Reg as RegNet, Cell as CellNet}
@@ -11,7 +10,7 @@ use Rattle.pdl_net.specs.declared.Port.{Port}
 use Rattle.pdl_net.specs.declared.Reg.{Reg}
 use Rattle.pdl_net.specs.declared.Array.{Array}
 use Rattle.pdl_net.specs.declared.Netlist.{Netlist}
-use Rattle.pdl_net.specs.Circuit.{Circuit, circuit_of, inputs_of, input_with, port_input, no_reg, no_array}
+use Rattle.pdl_net.specs.Circuit.{Circuit, circuit_of, input_with, port_input, no_reg, no_array}
 use Rattle.pdl_net.specs.Meaning.{signal, IsThereAt}
 use Rattle.pdl_net.specs.Well.{IsWell}
 use Rattle.pdl_net.specs.Width.{HasWidths}

@@ -1,6 +1,6 @@
 // Lists of words of 64 bits, from lists of words that have no more.
 
-ghost use Rattle.std.specs.Prelude.{◌≡◌, ◌<◌, ◌^◌, All, IfOk, if◌then◌else◌, true};
+ghost use Rattle.std.specs.Prelude.{◌≡◌, All, IfOk, IsTrue, if◌then◌else◌};
 ghost use Rattle.pdl_word.specs.Words.{widest};
 ghost use Rattle.pdl_netrun.specs.Held.{AreSmall, ListsFit, bits_of, held_lists, lists_of};
 ghost use Rattle.pdl_netrun.specs.Steps.{array_words};
@@ -52,7 +52,7 @@ fn narrowed_lists(alloc: Global, lists: &WordLists<Word>) -> Result<WordLists<u6
 
 /// Holds words, in 64 bits where they are narrow.
 pub fn hold(alloc: Global, lists: WordLists<Word>, narrow: bool) -> Result<HeldWords, NoMemory>
-    requires { narrow ≡ true → ListsFit 64 (lists_of lists) }
+    requires { IsTrue narrow → ListsFit 64 (lists_of lists) }
     ensures lists { IfOk result (λ h. held_lists h ≡ lists_of lists) }
     ensures bits { IfOk result (λ h. bits_of h ≡ (if narrow then 64 else widest)) }
 {

@@ -1,6 +1,6 @@
 // The widths of cells.
 
-ghost use Rattle.std.specs.Prelude.{◌≡◌, ◌≤◌, ◌<◌, All, length, IfOk, true};
+ghost use Rattle.std.specs.Prelude.{◌≡◌, ◌≤◌, ◌<◌, All, length, IfOk, IsTrue};
 ghost use Rattle.pdl_netrun.specs.Held.{AreWithin};
 ghost use Rattle.pdl_net.specs.Circuit.{circuit_of, array_at};
 ghost use Rattle.pdl_net.specs.Meaning.{cell_signal, signal, IsThereAt};
@@ -85,7 +85,7 @@ fn array_width(n: &Netlist, array: usize) -> u8
 pub fn is_narrow(n: &Netlist, widths: &[u8]) -> bool
     requires widths { HasWidths (circuit_of n.now) widths.now }
     requires cells { length widths.now ≡ length n.now.cells }
-    ensures { result ≡ true → AreWithin 64 (circuit_of n.now) }
+    ensures { IsTrue result → AreWithin 64 (circuit_of n.now) }
 {
     are_narrow(widths)
         && have_narrow_ports(n.ports.as_slice())
@@ -95,7 +95,7 @@ pub fn is_narrow(n: &Netlist, widths: &[u8]) -> bool
 
 /// Whether none of these widths is over 64.
 fn are_narrow(widths: &[u8]) -> bool
-    ensures { result ≡ true → All (λ w. w ≤ 64) widths.now }
+    ensures { IsTrue result → All (λ w. w ≤ 64) widths.now }
 {
     for width in widths {
         if *width > 64 {
@@ -107,7 +107,7 @@ fn are_narrow(widths: &[u8]) -> bool
 
 /// Whether no port has more than 64 bits.
 fn have_narrow_ports(ports: &[Port]) -> bool
-    ensures { result ≡ true → All (λ p. p.width ≤ 64) ports.now }
+    ensures { IsTrue result → All (λ p. p.width ≤ 64) ports.now }
 {
     for port in ports {
         if port.width > 64 {
@@ -119,7 +119,7 @@ fn have_narrow_ports(ports: &[Port]) -> bool
 
 /// Whether no register has more than 64 bits.
 fn have_narrow_regs(regs: &[Reg]) -> bool
-    ensures { result ≡ true → All (λ r. r.width ≤ 64) regs.now }
+    ensures { IsTrue result → All (λ r. r.width ≤ 64) regs.now }
 {
     for reg in regs {
         if reg.width > 64 {
@@ -131,7 +131,7 @@ fn have_narrow_regs(regs: &[Reg]) -> bool
 
 /// Whether no array has more than 64 bits.
 fn have_narrow_arrays(arrays: &[Array]) -> bool
-    ensures { result ≡ true → All (λ a. a.width ≤ 64) arrays.now }
+    ensures { IsTrue result → All (λ a. a.width ≤ 64) arrays.now }
 {
     for array in arrays {
         if array.width > 64 {

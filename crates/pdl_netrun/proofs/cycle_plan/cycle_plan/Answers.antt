@@ -1,8 +1,8 @@
-use Rattle.std.proofs.Common.{◌≡◌, ◌∙◌, ◌+◌, ap, arith, length, map}
+use Rattle.std.proofs.Common.{◌∙◌, ap, arith, length, map}
 use Rattle.std.proofs.lemmas.Grind.{common_steps}
 use Rattle.pdl_net.specs.declared.Netlist.{Netlist}
 use Rattle.pdl_net.specs.Circuit.{circuit_of, inputs_of}
-use Rattle.pdl_netrun.specs.Order.{first_place, place, cell_at}
+use Rattle.pdl_netrun.specs.Order.{place, cell_at}
 use Rattle.pdl_netrun.specs.Plan.{step_of_cell}
 use Rattle.pdl_netrun.proofs.cycle_plan.cycle_plan.Goals as goal
 

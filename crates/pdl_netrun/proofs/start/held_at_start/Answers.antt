@@ -1,14 +1,13 @@
-use Rattle.std.proofs.Common.{◌≡◌, ◌∙◌, ap, sym, subst, arith, ℕ, List, true}
-use Rattle.std.specs.Prelude.{IfOk, if◌then◌else◌}
+use Rattle.std.proofs.Common.{◌∙◌, ap, sym, subst, arith, ℕ, List}
+use Rattle.std.specs.Prelude.{IfOk}
 use Rattle.std.proofs.lemmas.Grind.{common_steps}
 use Rattle.std.proofs.lemmas.Result.{IfOk-weaker}
-use Rattle.pdl_word.specs.Words.{widest}
 use Rattle.pdl_net.specs.declared.Netlist.{Netlist}
 use Rattle.pdl_net.specs.Circuit.{circuit_of}
 use Rattle.pdl_netrun.specs.declared.held.HeldWords.{HeldWords}
 use Rattle.pdl_netrun.specs.Steps.{array_words}
 use Rattle.pdl_netrun.specs.Order.{IsOrder, first_place}
-use Rattle.pdl_netrun.specs.Held.{AreWithin, HeldLists, ListsFit, bits_of, first_lists, first_values, held_lists}
+use Rattle.pdl_netrun.specs.Held.{ListsFit, bits_of}
 use Rattle.pdl_netrun.proofs.NarrowNets.{within_bits}
 use Rattle.pdl_netrun.proofs.Reset.{first_is, small_lists}
 use Rattle.pdl_netrun.proofs.start.held_at_start.Goals as goal

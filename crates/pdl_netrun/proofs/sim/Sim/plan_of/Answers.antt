@@ -1,4 +1,4 @@
-use Rattle.std.proofs.Common.{◌≡◌, ◌∙◌, ◌+◌, arith, ap, sym, subst, ℕ, length, map}
+use Rattle.std.proofs.Common.{◌∙◌, arith, ap, sym, subst, ℕ, length, map}
 use Rattle.std.proofs.lemmas.Grind.{common_steps}
 use Rattle.pdl_net.specs.declared.Netlist.{Netlist}
 use Rattle.pdl_net.specs.Circuit.{circuit_of, outputs_of}
