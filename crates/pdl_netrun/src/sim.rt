@@ -18,7 +18,7 @@ use crate::order::{CellOrder, order_of};
 use crate::outside::{Outside, answer_all, step_all};
 use crate::places::{CommitPlaces, MemoryPlaces, all_places};
 use crate::plan::{all_drivers, all_resets};
-use crate::start::{all_arrays, all_outside, count_delayed, held_at_start};
+use crate::start::{all_arrays, all_outside, count_delayed, first_held};
 use crate::widths::all_widths;
 use pdl_image::Image;
 use pdl_kit::NoMemory;
@@ -116,7 +116,7 @@ impl<'a> Sim<'a> {
         let drivers = all_drivers(alloc, net, order)?;
         let commits = all_places(alloc, net)?;
         let inputs = Vec::with_capacity(alloc, 2 * outside.len())?;
-        let held = held_at_start(alloc, net, order, &widths, next, arrays)?;
+        let held = first_held(alloc, net, order, &widths, next, arrays)?;
         Ok(Sim {
             net,
             plan,

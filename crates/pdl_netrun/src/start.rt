@@ -116,7 +116,7 @@ fn filled_to(alloc: Global, depth: u32, words: &[Word]) -> Result<Vec<Word>, NoM
 }
 
 /// What is held before the first cycle, where registers and arrays have these values; the cells have these widths.
-pub fn held_at_start(
+pub fn first_held(
     alloc: Global,
     n: &Netlist,
     order: &CellOrder,

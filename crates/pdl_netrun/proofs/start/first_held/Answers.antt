@@ -10,7 +10,7 @@ use Rattle.pdl_netrun.specs.Order.{IsOrder, first_place}
 use Rattle.pdl_netrun.specs.Held.{ListsFit, bits_of}
 use Rattle.pdl_netrun.proofs.NarrowNets.{within_bits}
 use Rattle.pdl_netrun.proofs.Reset.{first_is, small_lists}
-use Rattle.pdl_netrun.proofs.start.held_at_start.Goals as goal
+use Rattle.pdl_netrun.proofs.start.first_held.Goals as goal
 
 pub hold-requires : goal.hold-requires
 hold-requires c = λ t.
