@@ -20,6 +20,7 @@ import tempfile
 
 sys.path.append(str(pathlib.Path(__file__).resolve().parent.parent / "tools"))
 import usage
+from real_tools import words_of
 
 ROOT = pathlib.Path(__file__).resolve().parent.parent
 EMPTY = "image 1\n"
@@ -130,9 +131,7 @@ def bench(text, cycles):
 
 def with_words(text, image, folder):
     """The text with the words of an image put into its arrays, and zeros elsewhere."""
-    words = {}
-    for name, address, value in (line.split() for line in image.splitlines()[1:] if line.strip()):
-        words[name, int(address)] = value
+    words = {(name, address): f"{value:x}" for name, address, value in words_of(image)}
     loads = []
     for name, last in re.findall(r"^reg \[\d+:0\] a_(\w+) ?\[0:(\d+)\];", text, re.M):
         lines = [words.get((name, address), "0") for address in range(int(last) + 1)]

@@ -55,7 +55,7 @@ class Memory:
     def __init__(self, random, number, delayed, locked, advisory=False):
         self.name = f"{'d' if delayed else 'q' if advisory else 'm'}{number}"
         self.delayed, self.advisory = delayed, advisory
-        self.width = random.choice([1, 4, 8, 8, 16])
+        self.width = random.choice([1, 4, 8, 8, 16, 65, 128])
         self.address = random.choice([1, 1, 2, 2, 3])
         self.lock = random.choice(["queue"] if delayed else ["queue", "bypass", "rename"]) if locked else None
         self.size = min(random.choice([1, 2, 4, 4, 8]), 1 << self.address if self.lock == "rename" else 8)

@@ -49,11 +49,11 @@ class Scope:
 
     def shift(self, width, depth):
         # Of 32 bits and more the amount is a short one with zeros in front: a constant of 2^32 or more there is an error to Verilator.
-        amount = self.leaf(width) if width < 32 else f"zext({self.leaf(6)}, {width})"
+        amount = self.leaf(width) if width < 32 else f"zext({self.leaf(8)}, {width})"
         return f"({self.expression(width, depth)} {self.random.choice(['<<', '>>'])} {amount})"
 
     def bit(self, depth):
-        width = self.random.choice([1, 3, 8, 16, 33])
+        width = self.random.choice([1, 3, 8, 16, 33, 65, 128])
         a, b = self.expression(width, depth), self.expression(width, depth)
         if self.random.random() < 0.3:
             return f"lts({a}, {b})"
@@ -90,7 +90,7 @@ class Memory:
 
     def __init__(self, random, number, stages):
         self.name = f"m{number}"
-        self.width = random.choice([1, 4, 8, 8, 16, 16, 31, 32, 64])
+        self.width = random.choice([1, 4, 8, 8, 16, 16, 31, 32, 64, 65, 100, 128])
         self.address = random.randint(1, 4)
         self.lock = random.choice([None, *LOCKS, *LOCKS])
         self.size = 1 << random.randint(0, min(2, self.address))
@@ -188,7 +188,7 @@ class Pipe:
         return [line for at, step in steps if at == stage for line in step(memory)]
 
     def stage_lines(self, stage):
-        lines = [self.bind("t", self.random.choice([1, 4, 8, 16, 33, 64]))[1] for _ in range(self.random.randint(0, 2))]
+        lines = [self.bind("t", self.random.choice([1, 4, 8, 16, 33, 64, 65, 127, 128]))[1] for _ in range(self.random.randint(0, 2))]
         for memory in self.memories:
             lines += self.memory_lines(memory, stage)
         if self.has_advice and self.random.random() < 0.7:
@@ -207,11 +207,16 @@ class Pipe:
         return f"pipe p({parameters})[{memories}] {{\n{body}\n}} start p({start});\n"
 
     def image(self):
-        lines = ["image 1"]
+        most = self.random.choice([1, 1, 4])
+        lines = [f"image {1 if most == 1 else 2}"]
         for memory in self.memories:
-            for address in range(1 << memory.address):
+            first = 0
+            while first < 1 << memory.address:
+                last = min(first + self.random.randint(1, most), 1 << memory.address) - 1
+                place = f"{first}..{last}" if last > first else f"{first}"
                 if self.random.random() < 0.7:
-                    lines.append(f"{memory.name} {address} {self.random.getrandbits(memory.width):x}")
+                    lines.append(f"{memory.name} {place} {self.random.getrandbits(memory.width):x}")
+                first = last + 1
         if self.has_advice:
             lines += [f"q {address} {self.random.getrandbits(8):x}" for address in range(4)]
         return "\n".join(lines) + "\n"

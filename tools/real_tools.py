@@ -86,9 +86,11 @@ class Module:
 
 
 def words_of(image):
-    """The words of an image text."""
+    """The words of an image text, each with its memory and its address; a line gives one, or a range of them."""
     lines = [it for it in image.splitlines()[1:] if it and not it.startswith("//")]
-    return [(name, int(address), int(value, 16)) for name, address, value in map(str.split, lines)]
+    for name, place, value in map(str.split, lines):
+        first, _, last = place.partition("..")
+        yield from ((name, address, int(value, 16)) for address in range(int(first), int(last or first) + 1))
 
 
 def kept_outside(name, width, address, commits):

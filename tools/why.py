@@ -13,7 +13,7 @@ import difflib
 import pathlib
 
 import usage
-from pdl_model import rule_advice, rule_guesses, rule_locks, rule_names, rules, syntax, tree
+from pdl_model import rule_advice, rule_guesses, rule_locks, rule_names, rules, syntax, tree, words
 from pdl_model.forms import TAKEN, Forms
 from pdl_model.layout import Layout, variable_widths
 from why_tokens import out_of_place
@@ -221,14 +221,14 @@ def limits(layout, rule, place):
     if rule != "Z7":
         return []
     if place[0] == 0:
-        return [f"{bits(layout.pipe.parameters[place[1]].width)}: a width is 1 to 64"]
+        return [f"{bits(layout.pipe.parameters[place[1]].width)}: a width is 1 to {words.WIDEST}"]
     if place[0] != 1:
         expressions = rule_names.expressions_of(layout.statements[place[1]].statement) if place[0] == 2 else layout.pipe.start
-        return [f"a literal of {bits(it.bits)}: a width is 1 to 64" for it in tree.nodes(expressions)
-                if isinstance(it, tree.Literal) and not 1 <= it.bits <= 64][:1]
+        return [f"a literal of {bits(it.bits)}: a width is 1 to {words.WIDEST}" for it in tree.nodes(expressions)
+                if isinstance(it, tree.Literal) and not 1 <= it.bits <= words.WIDEST][:1]
     it = layout.pipe.memories[place[1]]
     most = 6 if it.lock == "rename" else 16
-    said = [(not 1 <= it.width <= 64, f"a word of {bits(it.width)}"),
+    said = [(not 1 <= it.width <= words.WIDEST, f"a word of {bits(it.width)}"),
             (it.depth not in {1 << k for k in range(1, most + 1)}, f"{it.depth} words: a power of two from 2 to {1 << most}"),
             (it.lock and it.size not in (1, 2, 4, 8, 16), f"a lock of size {it.size}: 1, 2, 4, 8 or 16"),
             (it.delayed and it.lock not in (None, "queue"), f"a delayed memory takes `queue`, not `{it.lock}`"),

@@ -1,7 +1,14 @@
 """Images and delay files, and the lines that are printed of a run."""
 
+import re
+
 from .machine import Machine
 from .sequential import Sequential
+
+
+# A line that gives a word, or a range of words.
+GIVES = re.compile(
+    r"(?P<name>[a-z][a-z0-9_]{0,31}) (?P<first>[0-9]{1,10})(\.\.(?P<last>[0-9]{1,10}))? (?P<value>[0-9a-f]{1,32})")
 
 
 class WrongFile(Exception):
@@ -12,29 +19,36 @@ def read_image(pipe, text):
     """The words of each memory: a word that isn't given is 0."""
     image = {memory.name: [0] * memory.depth for memory in pipe.memories}
     lines = text.removesuffix("\n").split("\n")
-    if lines[0] != "image 1":
+    if lines[0] not in ("image 1", "image 2"):
         raise WrongFile("refused I1 line 1")
     given = set()
     for number, line in enumerate(lines[1:], 2):
         if line and not line.startswith("//"):
-            name, address, value = line.split(" ")
-            rule = image_rule(pipe.memory(name), name, int(address), int(value, 16), given)
+            found = GIVES.fullmatch(line)
+            if found is None or found["last"] and lines[0] == "image 1":
+                raise WrongFile(f"refused I2 line {number}")
+            memory, value = pipe.memory(found["name"]), int(found["value"], 16)
+            first, last = int(found["first"]), int(found["last"] or found["first"])
+            rule = image_rule(memory, first, last, value, given)
             if rule:
                 raise WrongFile(f"refused {rule} line {number}")
-            given.add((name, int(address)))
-            image[name][int(address)] = int(value, 16)
+            for address in range(first, last + 1):
+                given.add((memory.name, address))
+                image[memory.name][address] = value
     return image
 
 
-def image_rule(memory, name, address, value, given):
-    """The rule that a line of an image breaks, or None. The form of the line (I2) isn't asked."""
+def image_rule(memory, first, last, value, given):
+    """The rule that a line of an image with the right form breaks, or None."""
     if memory is None:
         return "I3"
-    if address >= memory.depth:
+    if max(first, last) >= memory.depth:
         return "I4"
     if value >> memory.width:
         return "I5"
-    return "I6" if (name, address) in given else None
+    if last < first:
+        return "I7"
+    return "I6" if any((memory.name, address) in given for address in range(first, last + 1)) else None
 
 
 def read_delays(pipe, text):

@@ -1,6 +1,6 @@
 """The rules on names (N) and on widths (W)."""
 
-from . import tree
+from . import tree, words
 from .layout import variable_widths
 
 
@@ -105,7 +105,7 @@ def node_rules(node, known):
     """The rules that an operator, slice, extension or literal breaks by its own operands."""
     match node:
         case tree.Binary(operator="cat", left=left, right=right):
-            if left.width(known) + right.width(known) > 64:
+            if left.width(known) + right.width(known) > words.WIDEST:
                 yield "W2"
         case tree.Binary(left=left, right=right) | tree.Choice(first=left, second=right):
             if left.width(known) != right.width(known):
@@ -116,7 +116,7 @@ def node_rules(node, known):
             if not low <= high < known[name]:
                 yield "W2"
         case tree.Extension(operand, bits, _):
-            if not operand.width(known) <= bits <= 64:
+            if not operand.width(known) <= bits <= words.WIDEST:
                 yield "W2"
         case tree.Literal(number, bits):
             if number >> bits:

@@ -5,7 +5,7 @@ asked only where no earlier letter's is broken. Places are pairs that stand in t
 statements, the end and the start clause.
 """
 
-from . import rule_advice, rule_guesses, rule_locks, rule_names, tree
+from . import rule_advice, rule_guesses, rule_locks, rule_names, tree, words
 from .forms import TAKEN, Forms
 from .layout import Layout
 from .syntax import Refused, parse
@@ -72,7 +72,7 @@ def limits(layout):
     yield from (("Z4", memory_place(16)) for _ in layout.pipe.memories[16:17])
     yield from (("Z5", place) for place in bound[512:513])
     yield from (("Z6", statement_place(it.place)) for it in layout.statements if it.guard == 10)
-    yield from (("Z7", parameter_place(k)) for k, it in enumerate(layout.pipe.parameters) if not 1 <= it.width <= 64)
+    yield from (("Z7", parameter_place(k)) for k, it in enumerate(layout.pipe.parameters) if not 1 <= it.width <= words.WIDEST)
     yield from (("Z7", memory_place(k)) for k, it in enumerate(layout.pipe.memories) if not memory_fits(it))
     yield from (("Z7", statement_place(k)) for k, it in enumerate(statements)
                 if not literals_fit(rule_names.expressions_of(it)))
@@ -86,13 +86,13 @@ def memory_fits(memory):
     depth_fits = memory.depth in {1 << bits for bits in range(1, 7 if renames else 17)}
     size_fits = memory.lock is None or memory.size in (1, 2, 4, 8, 16)
     lock_fits = memory.lock in (None, "queue") or not memory.delayed
-    return (1 <= memory.width <= 64 and depth_fits and size_fits and lock_fits
+    return (1 <= memory.width <= words.WIDEST and depth_fits and size_fits and lock_fits
             and (not renames or memory.size <= memory.depth))
 
 
 def literals_fit(expressions):
-    """Whether all literals in these expressions are of 1 to 64 bits."""
-    return all(1 <= it.bits <= 64 for it in tree.nodes(expressions) if isinstance(it, tree.Literal))
+    """Whether all literals in these expressions are of 1 to 128 bits."""
+    return all(1 <= it.bits <= words.WIDEST for it in tree.nodes(expressions) if isinstance(it, tree.Literal))
 
 
 # Forks

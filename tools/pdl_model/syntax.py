@@ -47,7 +47,7 @@ def is_too_long(kind, text):
         return len(text) > 10
     if kind == "literal":
         width, digits = text.split("'")
-        return len(width) > 10 or len(digits) > 21
+        return len(width) > 10 or len(digits) > 1 + (39 if digits[0] == "d" else 32)
     return False
 
 

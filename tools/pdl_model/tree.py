@@ -83,7 +83,7 @@ class Binary:
             return 1
         if self.operator == "cat":
             both = self.left.width(widths) + self.right.width(widths)
-            return both if both <= 64 else 1
+            return both if both <= words.WIDEST else 1
         return self.left.width(widths)
 
     def parts(self):

@@ -3,6 +3,9 @@
 from typing import NamedTuple
 
 
+WIDEST = 128
+
+
 class Word(NamedTuple):
     """A whole number from 0 to 2 to the width, less 1."""
 

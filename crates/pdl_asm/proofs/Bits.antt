@@ -15,26 +15,35 @@ use Rattle.pdl_asm.specs.declared.line.Operation.TheVariants.{Insn}
 use Rattle.pdl_asm.specs.declared.line.Operand.{Operand}
 use Rattle.pdl_asm.specs.declared.line.Operands.{Operands}
 use Rattle.pdl_asm.specs.Values.{Labels, argument_value, bit_of, letter_value, lower, operands_rule, or_zero, rule_of, word_of_bits}
+use Rattle.pdl_word.specs.Words.{widest}
 
 -- the items after the first
 abbrev pub rest_of : {X : Type 0} → List X → List X
 rest_of xs = take (length xs - 1) (drop 1 xs)
 
-small_mod : (high n : ℕ) → high ≤ 1 → n < 64 → high * 2 ^ n % 2 ^ 64 ≡ high * 2 ^ n
+small_mod : (high n : ℕ) → high ≤ 1 → n < widest → high * 2 ^ n % 2 ^ widest ≡ high * 2 ^ n
 small_mod high n h l =
     let a : high * 2 ^ n ≤ 1 * 2 ^ n = mul-le-mul_right (2 ^ n) h in
-    let b : 2 ^ n ≤ 2 ^ 63 = pow-le-pow_right (omega arith) {i = n} {j = 63} (omega (arith, l)) in
+    let b : 2 ^ n ≤ 2 ^ 127 = pow-le-pow_right (omega arith) {i = n} {j = 127} (omega (arith, l)) in
     mod-eq_of_lt (omega (arith, a, b))
 
--- the word of at most 64 bits is its first bit at its position, plus the word of the bits after it
+-- such a bit and the bits below it fit in widest bits
+pub word_fits : (high n low : ℕ) → high ≤ 1 → n < widest → low < 2 ^ n → high * 2 ^ n % 2 ^ widest + low < 2 ^ widest
+word_fits high n low h l b =
+    let e : high * 2 ^ n % 2 ^ widest ≡ high * 2 ^ n = small_mod high n h l in
+    let a : high * 2 ^ n ≤ 1 * 2 ^ n = mul-le-mul_right (2 ^ n) h in
+    let p : 2 ^ n ≤ 2 ^ 127 = pow-le-pow_right (omega arith) {i = n} {j = 127} (omega (arith, l)) in
+    omega (arith, a, b, e, p)
+
+-- the word of at most widest bits is its first bit at its position, plus the word of the bits after it
 pub word_first : (value : ℕ → ℕ) (xs : List ℕ) (high low d : ℕ)
-    → 1 ≤ length xs → length xs ≤ 64 → high ≤ 1 → high ≡ bit_of value (get_or xs 0 d) (rest_of xs)
-    → low ≡ word_of_bits value (rest_of xs) → high * 2 ^ length (rest_of xs) % 2 ^ 64 + low ≡ word_of_bits value xs
+    → 1 ≤ length xs → length xs ≤ widest → high ≤ 1 → high ≡ bit_of value (get_or xs 0 d) (rest_of xs)
+    → low ≡ word_of_bits value (rest_of xs) → high * 2 ^ length (rest_of xs) % 2 ^ widest + low ≡ word_of_bits value xs
 word_first value [] high low d h k one e f = absurd (omega (arith, h))
 word_first value (c ∷ cs) high low d h k one e f =
     let r : rest_of (c ∷ cs) ≡ cs = take_rest (c ∷ cs) 1 in
-    let m : high * 2 ^ length (rest_of (c ∷ cs)) % 2 ^ 64 ≡ high * 2 ^ length cs =
-    ap (λ ys. high * 2 ^ length ys % 2 ^ 64) r ∙ small_mod high (length cs) one (omega (arith, k)) in
+    let m : high * 2 ^ length (rest_of (c ∷ cs)) % 2 ^ widest ≡ high * 2 ^ length cs =
+    ap (λ ys. high * 2 ^ length ys % 2 ^ widest) r ∙ small_mod high (length cs) one (omega (arith, k)) in
     ap (λ n. n + low) m ∙ ap (λ n. n * 2 ^ length cs + low) (e ∙ ap (bit_of value c) r)
     ∙ ap (λ n. bit_of value c cs * 2 ^ length cs + n) (f ∙ ap (word_of_bits value) r)
 

@@ -7,3 +7,5 @@ pub mod Blanks
 pub mod WordsFit
 pub mod ReadBack
 pub mod FirstLabels
+pub mod Far
+pub mod LastDigits

@@ -4,3 +4,4 @@ pub mod Assembly
 pub mod Slots
 pub mod Places
 pub mod ReadBack
+pub mod Numbers

@@ -10,7 +10,7 @@ use Rattle.pdl_asm.specs.declared.line.Operands.TheVariants.{Few, TooMany}
 use Rattle.pdl_asm.specs.declared.line.Operation.{Operation}
 use Rattle.pdl_asm.specs.declared.line.Operation.TheVariants.{Nothing, At, Word, Insn}
 use Rattle.pdl_asm.specs.declared.line.AssemblyLine.{AssemblyLine}
-use Rattle.pdl_word.specs.Digits.{are_digits}
+use Rattle.pdl_word.specs.Digits.{are_digits, most_hex, most_decimal}
 
 -- a space or a tab
 abbrev pub is_blank : ℕ → Bool
@@ -47,13 +47,13 @@ without_comment (c ∷ cs) = if is_comment (c ∷ cs) then [] else c ∷ without
 
 -- ---- numbers and operands
 
--- 1 to 20 decimal digits
+-- 1 to most_decimal decimal digits
 abbrev pub decimal_of : List ℕ → Option ℕ
-decimal_of ds = if are_digits 10 20 ds then Some (digits_value 10 ds) else None
+decimal_of ds = if are_digits 10 most_decimal ds then Some (digits_value 10 ds) else None
 
--- 1 to 16 lower hexadecimal digits
+-- 1 to most_hex lower hexadecimal digits
 abbrev pub hexadecimal_of : List ℕ → Option ℕ
-hexadecimal_of ds = if are_digits 16 16 ds then Some (digits_value 16 ds) else None
+hexadecimal_of ds = if are_digits 16 most_hex ds then Some (digits_value 16 ds) else None
 
 -- `0x` and hexadecimal digits, or decimal digits
 abbrev pub magnitude_of : List ℕ → Option ℕ

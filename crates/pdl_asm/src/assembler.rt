@@ -14,6 +14,7 @@ use crate::operation::read_line;
 use crate::place::{after_line, define_label};
 use crate::rules::line_rule;
 use crate::text::split_line;
+use crate::whole::Whole;
 use crate::words::WordSlots;
 use pdl_asm_table::{Dictionary, Table};
 use pdl_kit::NoMemory;
@@ -24,27 +25,27 @@ fn define_labels(
     alloc: Global,
     table: &Table,
     text: &[u8],
-    labels: &mut Dictionary<i128>,
+    labels: &mut Dictionary<Whole>,
 ) -> Result<(), NoMemory>
     requires size { length text.now ≤ LONGEST_FILE }
     requires none { labels.old ≡ [] }
     ensures { OnOk result
         (labels.new ≡ labels_of (lines_from table.now (pos 0) (lines text.now))) }
 {
-    let mut place = 0;
+    let mut place = Whole::from_count(0);
     let mut rest = text;
     while !rest.is_empty() {
         let (first, later) = split_line(rest);
         let line = read_line(alloc, first)?;
-        define_label(labels, place, &line)?;
-        place = after_line(table, place, &line);
+        define_label(labels, &place, &line)?;
+        place = after_line(table, &place, &line);
         rest = later;
     }
     Ok(())
 }
 
 // The places of the labels that a text defines.
-fn read_labels(alloc: Global, table: &Table, text: &[u8]) -> Result<Dictionary<i128>, NoMemory>
+fn read_labels(alloc: Global, table: &Table, text: &[u8]) -> Result<Dictionary<Whole>, NoMemory>
     requires { length text.now ≤ LONGEST_FILE }
     ensures { IfOk result (λ l. l ≡ labels_of (lines_from table.now (pos 0) (lines text.now))) }
 {
@@ -67,20 +68,20 @@ fn defined_after(before: usize, line: &Option<AssemblyLine>) -> usize
 // Writes the word of a line at a place, or refuses the line, which has this number. Lines before it define the first `before` of all labels.
 fn take_line(
     table: &Table,
-    labels: &Dictionary<i128>,
+    labels: &Dictionary<Whole>,
     before: usize,
     words: &mut WordSlots,
-    place: i128,
+    place: &Whole,
     number: u32,
     line: &Option<AssemblyLine>,
 ) -> Result<(), AsmError>
     ensures right { OnOk result (line_rule_of table.now labels.now (take before labels.now)
-        (is_taken_in words.old place) place line.now ≡ None) }
-    ensures word { OnOk result (words.new ≡ with_word words.old place
-        (line_word_of table.now labels.now place line.now)) }
+        (is_taken_in words.old place.now) place.now line.now ≡ None) }
+    ensures word { OnOk result (words.new ≡ with_word words.old place.now
+        (line_word_of table.now labels.now place.now line.now)) }
     ensures refused { IfErr result (IsRefusal (line_rule_of table.now labels.now
         (take before labels.now)
-        (is_taken_in words.old place) place line.now) number) }
+        (is_taken_in words.old place.now) place.now line.now) number) }
 {
     let taken = words.is_taken(place);
     if let Some(rule) = line_rule(table, labels, before, taken, place, line) {
@@ -94,7 +95,7 @@ fn take_line(
 fn write_lines(
     alloc: Global,
     table: &Table,
-    labels: &Dictionary<i128>,
+    labels: &Dictionary<Whole>,
     text: &[u8],
     words: &mut WordSlots,
 ) -> Result<(), AsmError>
@@ -107,7 +108,7 @@ fn write_lines(
         (λ e. AreWritten table.now labels.now
         (lines_from table.now (pos 0) (lines text.now)) (Err e)) }
 {
-    let mut place = 0;
+    let mut place = Whole::from_count(0);
     let mut number = 1;
     // How many of the labels the lines so far define.
     let mut before = 0;
@@ -115,12 +116,12 @@ fn write_lines(
     while !rest.is_empty() {
         let (first, later) = split_line(rest);
         let line = read_line(alloc, first)?;
-        match take_line(table, labels, before, words, place, number, &line) {
+        match take_line(table, labels, before, words, &place, number, &line) {
             Ok(()) => (),
             Err(error) => return Err(error),
         }
         before = defined_after(before, &line);
-        place = after_line(table, place, &line);
+        place = after_line(table, &place, &line);
         rest = later;
         number += 1;
     }
@@ -131,7 +132,7 @@ fn write_lines(
 fn write_words(
     alloc: Global,
     table: &Table,
-    labels: &Dictionary<i128>,
+    labels: &Dictionary<Whole>,
     text: &[u8],
 ) -> Result<WordSlots, AsmError>
     requires size { length text.now ≤ LONGEST_FILE }
@@ -156,7 +157,7 @@ fn words_of(alloc: Global, table: &Table, text: &[u8]) -> Result<WordSlots, AsmE
 
 /// Assembles a text to the text of an image, for a table of an instruction set.
 ///
-/// A line is `[label:] [operation]`, with blanks between words, and a comment from `//` on. An operation is `.at number`, `.word number`, or the name of an instruction with operands separated by commas, names or numbers: an optional `-` and then 1 to 20 decimal digits, or `0x` and 1 to 16 lower hexadecimal digits. The place begins at 0; each instruction and each `.word` adds 1 to it, `.at` sets it. A label is the place at its line, and of a label that is defined twice the first definition holds.
+/// A line is `[label:] [operation]`, with blanks between words, and a comment from `//` on. An operation is `.at number`, `.word number`, or the name of an instruction with operands separated by commas, names or numbers: an optional `-` and then 1 to 39 decimal digits, or `0x` and 1 to 32 lower hexadecimal digits. The place begins at 0; each instruction and each `.word` adds 1 to it, `.at` sets it. A label is the place at its line, and of a label that is defined twice the first definition holds.
 ///
 /// A1: a line's form. A2: an unknown instruction. A3: the number of operands. A4: an operand for a register that is the name of none. A5: a value outside its field, no number where one must stand, or a `.word` outside `-2^(word-1)` to `2^word - 1`. A6: a label that is defined nowhere, or was defined before. A7: `.at`, or the place of a word, outside 0 to 65,535. A8: a word written before. A refusal is that of the lowest wrong line, counted from 1, there of the lowest rule.
 ///

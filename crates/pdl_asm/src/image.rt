@@ -3,11 +3,13 @@ ghost use Rattle.std.specs.Prelude.{◌≡◌, ◌≤◌, ◌<◌, ◌++◌, ◌
 ghost use Rattle.std.specs.List.{range_with_len};
 ghost use Rattle.pdl_asm_table.specs.Tables.{IsTable};
 ghost use Rattle.pdl_asm.specs.Assembly.{image_text, word_line};
+ghost use Rattle.pdl_word.specs.Words.{widest};
 
 use crate::words::WordSlots;
 use pdl_asm_table::Table;
 use pdl_kit::{Name, NoMemory};
 use pdl_trace::word_line as line_of_word;
+use pdl_word::Word;
 use std::alloc::Global;
 
 // The line of an address, if it has a word.
@@ -16,10 +18,10 @@ fn push_word(
     mem: &Name,
     width: u8,
     address: usize,
-    word: Option<u64>,
+    word: Option<Word>,
 ) -> Result<(), NoMemory>
     requires name { length mem.now ≤ 32 }
-    requires width { width ≤ 64 }
+    requires width { width ≤ widest }
     ensures { OnOk result
         (text.new.items ≡ text.old.items ++ word_line mem.now width address word) }
 {

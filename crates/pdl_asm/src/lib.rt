@@ -16,6 +16,7 @@ mod rules;
 mod sign;
 mod text;
 mod values;
+mod whole;
 mod words;
 
 pub use asm_error::AsmError;

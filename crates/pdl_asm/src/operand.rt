@@ -1,5 +1,5 @@
 // Numbers and operands of a line.
-ghost use Rattle.std.specs.Prelude.{◌≡◌, ◌≤◌, ◌<◌, ◌==◌, ◌^◌, IfOk, IfSome, MatchOption, OnOk, Some, None, [], ◌∷◌, ◌++◌, length, take};
+ghost use Rattle.std.specs.Prelude.{◌≡◌, ◌≤◌, ◌<◌, ◌==◌, ◌^◌, IfOk, IfSome, MatchOption, OnOk, Some, None, option_map, pos, ◌≤ℤ◌, [], ◌∷◌, ◌++◌, length, take};
 ghost use Rattle.std.specs.List.{slice_split};
 ghost use Rattle.std.specs.Option.{option_copied};
 ghost use Rattle.pdl_asm.specs.Lines.{counted as counted_of, magnitude_of, number_of, operand_of, operands_given, parts_after};
@@ -8,14 +8,16 @@ use crate::digits::{read_decimal, read_hexadecimal};
 use crate::line::{Operand, Operands};
 use crate::number::SignedNumber;
 use crate::text::{find_byte, without_blanks};
+use crate::whole::Whole;
 use pdl_asm_table::is_name;
 use pdl_kit::{Name, NoMemory, Seq};
 use std::alloc::Global;
 
 // The magnitude that `0x` and hexadecimal digits, or decimal digits, write.
-fn read_magnitude(text: &[u8]) -> Option<u128>
-    ensures value { result ≡ magnitude_of text.now }
-    ensures small { IfSome result (λ n. n ≤ 2 ^ 67) }
+fn read_magnitude(text: &[u8]) -> Option<Whole>
+    ensures value { result ≡ option_map pos (magnitude_of text.now) }
+    ensures low { IfSome result (λ n. pos 0 ≤ℤ n) }
+    ensures high { IfSome result (λ n. n ≤ℤ pos (10 ^ 39)) }
 {
     match text {
         [b'0', b'x', digits @ ..] => read_hexadecimal(digits),
@@ -29,7 +31,7 @@ pub fn read_number(text: &[u8]) -> Option<SignedNumber>
 {
     match text {
         [b'-', magnitude @ ..] => match read_magnitude(magnitude) {
-            Some(magnitude) => Some(SignedNumber::negative(magnitude)),
+            Some(magnitude) => Some(SignedNumber::negative(&magnitude)),
             None => None,
         },
         _ => match read_magnitude(text) {

@@ -3,11 +3,14 @@ ghost use Rattle.std.specs.Prelude.{◌≡◌, ◌≤◌, IfSome, Some, None, le
 ghost use Rattle.pdl_asm_table.specs.Dictionaries.{value_of};
 ghost use Rattle.pdl_asm.specs.Values.{given_rule as given_rule_of, lower as lower_of, operands_rule as operands_rule_of, rank as rank_of, rule_of as rule_of_value};
 ghost use Rattle.pdl_asm.specs.Assembly.{free_rule, insn_rule as insn_rule_of, is_address as is_address_of, label_rule as label_rule_of, line_rule as line_rule_of, operation_rule as operation_rule_of, place_rule as place_rule_of};
+ghost use Rattle.pdl_word.specs.Words.{widest};
 
 use crate::line::{AssemblyLine, Operand, Operands, Operation};
 use crate::values::{argument_value, in_word};
+use crate::whole::Whole;
 use pdl_asm_table::{Arg, Dictionary, Insn, Table};
 use pdl_kit::{Name, Rule};
+use pdl_word::Word;
 
 // The order of rules.
 fn rank(rule: Option<Rule>) -> u8
@@ -33,7 +36,7 @@ fn lower(a: Option<Rule>, b: Option<Rule>) -> Option<Rule>
 }
 
 // The rule that stands in place of a value.
-fn rule_of(value: Result<u64, Rule>) -> Option<Rule>
+fn rule_of(value: Result<Word, Rule>) -> Option<Rule>
     ensures { result ≡ rule_of_value value }
 {
     match value {
@@ -45,14 +48,14 @@ fn rule_of(value: Result<u64, Rule>) -> Option<Rule>
 // The lowest rule that operands break; A3 asks as many as arguments.
 fn operands_rule(
     table: &Table,
-    labels: &Dictionary<i128>,
-    place: i128,
+    labels: &Dictionary<Whole>,
+    place: &Whole,
     bits: &[u8],
     args: &[Arg],
     operands: &[Operand],
 ) -> Option<Rule>
-    requires { length bits.now ≤ 64 }
-    ensures { result ≡ operands_rule_of table.now labels.now place bits.now args.now operands.now }
+    requires { length bits.now ≤ widest }
+    ensures { result ≡ operands_rule_of table.now labels.now place.now bits.now args.now operands.now }
 {
     match args {
         [arg, later_args @ ..] => match operands {
@@ -76,14 +79,14 @@ fn operands_rule(
 // The lowest rule that the operands of an instruction break.
 fn given_rule(
     table: &Table,
-    labels: &Dictionary<i128>,
-    place: i128,
+    labels: &Dictionary<Whole>,
+    place: &Whole,
     insn: &Insn,
     operands: &Operands,
 ) -> Option<Rule>
-    requires { length insn.now.bits ≤ 64 }
+    requires { length insn.now.bits ≤ widest }
     ensures { result
-        ≡ given_rule_of table.now labels.now place insn.now.bits insn.now.args operands.now }
+        ≡ given_rule_of table.now labels.now place.now insn.now.bits insn.now.args operands.now }
 {
     match operands {
         Operands::Few(few) => operands_rule(
@@ -99,15 +102,15 @@ fn given_rule(
 }
 
 // Whether a place is an address, 0 to 65,535.
-fn is_address(place: i128) -> bool
-    ensures { result ≡ is_address_of place }
+fn is_address(place: &Whole) -> bool
+    ensures { result ≡ is_address_of place.now }
 {
-    place >= 0 && place < 65_536
+    place.address().is_some()
 }
 
 // The rule that a word's place breaks; `taken` says whether a word was written there before.
-fn place_rule(taken: bool, place: i128) -> Option<Rule>
-    ensures { result ≡ place_rule_of taken place }
+fn place_rule(taken: bool, place: &Whole) -> Option<Rule>
+    ensures { result ≡ place_rule_of taken place.now }
 {
     if !is_address(place) {
         Some(Rule::A7)
@@ -121,13 +124,13 @@ fn place_rule(taken: bool, place: i128) -> Option<Rule>
 // The lowest rule that an instruction breaks.
 fn insn_rule(
     table: &Table,
-    labels: &Dictionary<i128>,
+    labels: &Dictionary<Whole>,
     taken: bool,
-    place: i128,
+    place: &Whole,
     name: &Name,
     operands: &Operands,
 ) -> Option<Rule>
-    ensures { result ≡ insn_rule_of table.now labels.now taken place
+    ensures { result ≡ insn_rule_of table.now labels.now taken place.now
         (value_of table.now.insns name.now) operands.now }
 {
     match table.insn(name) {
@@ -142,12 +145,12 @@ fn insn_rule(
 // The lowest rule that an operation breaks.
 fn operation_rule(
     table: &Table,
-    labels: &Dictionary<i128>,
+    labels: &Dictionary<Whole>,
     taken: bool,
-    place: i128,
+    place: &Whole,
     operation: &Operation,
 ) -> Option<Rule>
-    ensures { result ≡ operation_rule_of table.now labels.now taken place operation.now }
+    ensures { result ≡ operation_rule_of table.now labels.now taken place.now operation.now }
 {
     match operation {
         Operation::Nothing => None,
@@ -172,7 +175,7 @@ fn operation_rule(
 }
 
 // The rule that a label breaks; lines before defined the first `before` of all labels.
-fn label_rule(labels: &Dictionary<i128>, before: usize, label: &Option<Name>) -> Option<Rule>
+fn label_rule(labels: &Dictionary<Whole>, before: usize, label: &Option<Name>) -> Option<Rule>
     ensures { result ≡ label_rule_of (take before labels.now) label.now }
 {
     match label {
@@ -190,14 +193,14 @@ fn label_rule(labels: &Dictionary<i128>, before: usize, label: &Option<Name>) ->
 /// The lowest rule that a line breaks, by all labels, of which lines before it defined the first `before`; `taken` says whether a word was written at its place before.
 pub fn line_rule(
     table: &Table,
-    labels: &Dictionary<i128>,
+    labels: &Dictionary<Whole>,
     before: usize,
     taken: bool,
-    place: i128,
+    place: &Whole,
     line: &Option<AssemblyLine>,
 ) -> Option<Rule>
     ensures { result
-        ≡ line_rule_of table.now labels.now (take before labels.now) taken place line.now }
+        ≡ line_rule_of table.now labels.now (take before labels.now) taken place.now line.now }
 {
     match line {
         Some(line) => lower(

@@ -1,26 +1,25 @@
-// Numbers with a sign, and powers of 2.
-ghost use Rattle.std.specs.Prelude.{◌≡◌, ◌≤◌, ◌^◌, ◌≤ℤ◌, ◌<ℤ◌, pos, negsuc};
+// Powers of 2, and the words below them.
+ghost use Rattle.std.specs.Prelude.{◌≡◌, ◌≤◌, ◌-◌, ◌^◌, nat_lt};
+ghost use Rattle.pdl_word.specs.Words.{widest};
 
-/// The magnitude of a number from 0 on.
-pub fn magnitude(number: i128) -> u128
-    requires { pos 0 ≤ℤ number }
-    ensures { pos result ≡ number }
+use pdl_word::{WIDEST, Word};
+
+/// Whether a word has no more than so many bits.
+pub fn has_bits(word: Word, bits: u8) -> bool
+    requires { bits ≤ widest }
+    ensures { result ≡ nat_lt word (2 ^ bits) }
 {
-    number as u128
+    bits == WIDEST || word < 1 << bits
 }
 
-/// How far a number below 0 is from -1.
-pub fn below_minus_one(number: i128) -> u128
-    requires { number <ℤ pos 0 }
-    ensures { negsuc result ≡ number }
+/// The largest word of so many bits.
+pub fn ones(bits: u8) -> Word
+    requires { bits ≤ widest }
+    ensures { result ≡ 2 ^ bits - 1 }
 {
-    (-(number + 1)) as u128
-}
-
-/// Two to a power of at most 64.
-pub fn power(bits: u8) -> u128
-    requires { bits ≤ 64 }
-    ensures { result ≡ 2 ^ bits }
-{
-    1 << bits
+    if bits == WIDEST {
+        Word::MAX
+    } else {
+        (1 << bits) - 1
+    }
 }

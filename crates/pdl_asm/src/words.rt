@@ -3,7 +3,9 @@ ghost use Rattle.std.specs.Prelude.{◌≡◌, ◌<◌, IfOk, None, Some, length
 ghost use Rattle.pdl_asm.specs.Assembly.{addresses};
 ghost use Rattle.pdl_asm.specs.Slots.{is_taken_in, with_word};
 
+use crate::whole::Whole;
 use pdl_kit::NoMemory;
+use pdl_word::Word;
 use std::alloc::Global;
 use std::marker::Model;
 
@@ -11,7 +13,7 @@ use std::marker::Model;
 const ADDRESSES: usize = 65_536;
 
 // No word for each of so many addresses.
-fn no_words(alloc: Global, count: usize) -> Result<Vec<Option<u64>>, NoMemory>
+fn no_words(alloc: Global, count: usize) -> Result<Vec<Option<Word>>, NoMemory>
     ensures items { IfOk result (λ v. v.items ≡ replicate count None) }
     ensures len { IfOk result (λ v. length v.items ≡ count) }
 {
@@ -21,7 +23,7 @@ fn no_words(alloc: Global, count: usize) -> Result<Vec<Option<u64>>, NoMemory>
 /// The word that each address from 0 to 65,535 has, if one was written there.
 #[derive(Drop)]
 pub struct WordSlots {
-    slots: Vec<Option<u64>>,
+    slots: Vec<Option<Word>>,
 }
 
 impl Model for WordSlots {
@@ -45,25 +47,28 @@ impl WordSlots {
     }
 
     /// Whether a place is an address at which a word was written.
-    pub fn is_taken(&self, place: i128) -> bool
-        ensures { result ≡ is_taken_in self.now place }
+    pub fn is_taken(&self, place: &Whole) -> bool
+        ensures { result ≡ is_taken_in self.now place.now }
     {
-        place >= 0 && place < 65_536 && self.slots[place as usize].is_some()
+        match place.address() {
+            Some(address) => self.slots[address].is_some(),
+            None => false,
+        }
     }
 
     /// Writes a word, if there is one, at a place that is an address.
-    pub fn write(&mut self, place: i128, word: Option<u64>)
-        ensures { self.new ≡ with_word self.old place word }
+    pub fn write(&mut self, place: &Whole, word: Option<Word>)
+        ensures { self.new ≡ with_word self.old place.now word }
     {
         if let Some(word) = word {
-            if place >= 0 && place < 65_536 {
-                self.slots[place as usize] = Some(word);
+            if let Some(address) = place.address() {
+                self.slots[address] = Some(word);
             }
         }
     }
 
     /// The word of each address.
-    pub fn slots(&self) -> &[Option<u64>]
+    pub fn slots(&self) -> &[Option<Word>]
         ensures value { result.now ≡ self.now }
         ensures len { length result.now ≡ 65536 }
     {

@@ -14,6 +14,7 @@ use Rattle.pdl_asm_table.specs.declared.table.ArgumentKind.TheVariants.{Reg, Uin
 use Rattle.pdl_asm_table.specs.declared.table.Arg.{Arg}
 use Rattle.pdl_asm_table.specs.declared.table_error.TableError.{TableError}
 use Rattle.pdl_asm_table.specs.declared.table_error.TableError.TheVariants.{Refused, NoMemory}
+use Rattle.pdl_word.specs.Words.{widest}
 
 -- the text at a key
 abbrev pub text_at : List ℕ → Members → Option (List ℕ)
@@ -99,9 +100,9 @@ insns_of k (item d ds) = with_insn k (insn_of d) (insns_of (k + 1) ds)
 
 -- ---- what stands in no instruction
 
--- a width of 1 to 64 bits
+-- a width of 1 to widest bits
 abbrev pub width_of : ℤ → Option ℕ
-width_of (pos n) = where_is (λ w. nat_le 1 w && nat_le w 64) n
+width_of (pos n) = where_is (λ w. nat_le 1 w && nat_le w widest) n
 width_of (negsuc n) = None
 
 -- a register's number, below 2^32

@@ -10,6 +10,7 @@ use Rattle.pdl_asm_table.specs.declared.table.Arg.{Arg}
 use Rattle.pdl_asm_table.specs.declared.table.Insn.{Insn}
 use Rattle.pdl_asm_table.specs.declared.table_error.TableError.{TableError}
 use Rattle.pdl_asm_table.specs.declared.table_error.TableError.TheVariants.{Refused}
+use Rattle.pdl_word.specs.Words.{widest}
 
 -- a table as contracts see it
 pub record TableValue : Type 0 where
@@ -23,10 +24,10 @@ abbrev pub AreWide : ℕ → List (List ℕ × Insn) → Type 0
 AreWide bits [] = Unit {0}
 AreWide bits (i ∷ is) = (length i.1.bits ≡ bits) × AreWide bits is
 
--- what every table keeps: a word has 1 to 64 bits, the memory has a name of the pipeline language, and each instruction has the bits of a word
+-- what every table keeps: a word has 1 to widest bits, the memory has a name of the pipeline language, and each instruction has the bits of a word
 pub record IsTable (t : TableValue) : Type 0 where
   pub low : 1 ≤ t.word
-  pub high : t.word ≤ 64
+  pub high : t.word ≤ widest
   pub mem : is_pipe_name t.mem ≡ true
   pub bits : AreWide t.word t.insns
 

@@ -6,10 +6,12 @@ ghost use Rattle.toml.specs.Data.{as_table, as_str, as_integer, as_array, get_me
 ghost use Rattle.toml.specs.View.{view, table_view, items_view};
 ghost use Rattle.pdl_asm_table.specs.Names.{is_pipe_name as is_pipe_name_of};
 ghost use Rattle.pdl_asm_table.specs.Documents.{are_tables as are_tables_of, has_only, insn_keys, number_of, regs_from, regs_of, some_tables, table_keys, text_at as text_of, where_is, width_of};
+ghost use Rattle.pdl_word.specs.Words.{widest};
 
 use crate::dictionary::Dictionary;
 use crate::names::{is_name, is_one_of, is_pipe_name};
 use pdl_kit::{Name, NoMemory};
+use pdl_word::WIDEST;
 use std::alloc::Global;
 use toml::{Table as Document, Value};
 
@@ -84,12 +86,12 @@ pub fn has_table_keys(table: &Document) -> bool
     true
 }
 
-// The width that a number is, 1 to 64.
+// The width that a number is, 1 to `WIDEST`.
 fn to_width(number: i64) -> Option<u8>
-    ensures range { IfSome result (λ w. (1 ≤ w) × (w ≤ 64)) }
+    ensures range { IfSome result (λ w. (1 ≤ w) × (w ≤ widest)) }
     ensures value { result ≡ width_of number }
 {
-    if number >= 1 && number <= 64 {
+    if number >= 1 && number <= i64::from(WIDEST) {
         Some(number as u8)
     } else {
         None
@@ -98,7 +100,7 @@ fn to_width(number: i64) -> Option<u8>
 
 /// The width at the key `word`.
 pub fn word_in(table: &Document) -> Option<u8>
-    ensures range { IfSome result (λ w. (1 ≤ w) × (w ≤ 64)) }
+    ensures range { IfSome result (λ w. (1 ≤ w) × (w ≤ widest)) }
     ensures value { result ≡ option_and_then width_of
         (option_and_then as_integer (get_member (codes "word") (table_view table.now))) }
 {

@@ -5,6 +5,7 @@ ghost use Rattle.pdl_kit.specs.declared.rule.Rule.TheVariants.{B5};
 ghost use Rattle.pdl_asm_table.specs.Names.{is_pipe_name};
 ghost use Rattle.pdl_asm_table.specs.Tables.{first_repeated, refused_at, table_with};
 ghost use Rattle.pdl_asm_table.specs.Documents.{document_of, table, table_of_members, IsNoDocument, Meets};
+ghost use Rattle.pdl_word.specs.Words.{widest};
 
 use crate::checks::{first_b3, first_b4};
 use crate::dictionary::Dictionary;
@@ -48,7 +49,7 @@ fn to_table(
     insns: Seq<(Name, Insn)>,
 ) -> Result<Table, TableError>
     requires low { 1 ≤ word }
-    requires high { word ≤ 64 }
+    requires high { word ≤ widest }
     requires name { is_pipe_name mem ≡ true }
     ensures { Meets (table_with word mem regs insns) result }
 {
@@ -108,7 +109,7 @@ fn parse(alloc: Global, text: &[u8]) -> Result<Document, TableError>
 
 /// Reads the table of an instruction set from TOML.
 ///
-/// Its keys are `word`, the bits of a word, 1 to 64; `mem`, the name of a memory; `regs`, which may be missing, a table from names of registers to numbers below `2^32`; and `insn`, an array of at least one table, each with exactly `name`, `args`, an array of texts `<letter>:<kind>` with a kind `reg`, `uint`, `sint` or `rel`, and `bits`, most significant first, of `0`, `1` and letters, in which spaces are ignored.
+/// Its keys are `word`, the bits of a word, 1 to `WIDEST`; `mem`, the name of a memory; `regs`, which may be missing, a table from names of registers to numbers below `2^32`; and `insn`, an array of at least one table, each with exactly `name`, `args`, an array of texts `<letter>:<kind>` with a kind `reg`, `uint`, `sint` or `rel`, and `bits`, most significant first, of `0`, `1` and letters, in which spaces are ignored.
 ///
 /// B1: the text isn't TOML, or not UTF-8. B2: a key is missing or unknown, or a value hasn't its type, form or range. B3: `bits` has another character, or isn't `word` long. B4: a letter in `bits` without argument, an argument without letter in `bits`, or two arguments of one letter. B5: an instruction name that an earlier instruction has. A refusal is that of the lowest rule, there of the lowest instruction, counted from 1; 0 is what stands in none.
 pub fn read_table(alloc: Global, text: &[u8]) -> Result<Table, TableError>

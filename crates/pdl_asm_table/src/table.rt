@@ -4,6 +4,7 @@ ghost use Rattle.std.specs.Option.{option_copied};
 ghost use Rattle.pdl_asm_table.specs.Dictionaries.{value_of};
 ghost use Rattle.pdl_asm_table.specs.Names.{is_pipe_name};
 ghost use Rattle.pdl_asm_table.specs.Tables.{IsTable};
+ghost use Rattle.pdl_word.specs.Words.{widest};
 
 use crate::dictionary::Dictionary;
 use pdl_kit::{Name, Seq};
@@ -70,11 +71,11 @@ impl Table {
         }
     }
 
-    /// How many bits a word has, 1 to 64; and what every table keeps.
+    /// How many bits a word has, 1 to `WIDEST`; and what every table keeps.
     pub fn word(&self) -> u8
         ensures value { result ≡ self.now.word }
         ensures low { 1 ≤ result }
-        ensures high { result ≤ 64 }
+        ensures high { result ≤ widest }
         ensures table { IsTable self.now }
     {
         self.word
@@ -102,7 +103,7 @@ impl Table {
     pub fn insn(&self, name: &Name) -> Option<&Insn>
         ensures value { option_copied result ≡ value_of self.now.insns name.now }
         ensures bits { IfSome result (λ i. length i.now.bits ≡ self.now.word) }
-        ensures few { IfSome result (λ i. length i.now.bits ≤ 64) }
+        ensures few { IfSome result (λ i. length i.now.bits ≤ widest) }
     {
         match self.insns.get(name) {
             Some(insn) => Some(insn),

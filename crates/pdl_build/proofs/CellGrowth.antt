@@ -19,6 +19,7 @@ use Rattle.pdl_net.proofs.CircuitGrowth.{all_fit_added, all_fit_grown, port_stay
 use Rattle.pdl_build.specs.Change.{with_cell, with_port, input_port, output_port}
 use Rattle.pdl_build.specs.declared.Extent.{Extent}
 use Rattle.pdl_build.specs.Parts.{IsExtent, HaveExtents, no_cell, extent_in}
+use Rattle.pdl_word.specs.Words.{widest}
 
 -- all cells still fit in a circuit that has grown but by no cell
 pub all_fit_still : (old new : Circuit) → Grows old new → IsWell old → new.cells ≡ old.cells → AllFit new new.cells []
@@ -155,8 +156,8 @@ well_port c p w f =
       arrays = λ m h. array_stays c d k (array_at c m) (w.arrays m h);
     }
 
--- an input more of 1 to 64 bits leaves a circuit well formed
-pub well_input : (c : Circuit) (n : List ℕ) (w : ℕ) → IsWell c → 1 ≤ w → w ≤ 64 → IsWell (with_port c (input_port n w))
+-- an input more of 1 to widest bits leaves a circuit well formed
+pub well_input : (c : Circuit) (n : List ℕ) (w : ℕ) → IsWell c → 1 ≤ w → w ≤ widest → IsWell (with_port c (input_port n w))
 well_input c n w h low high = well_port c (input_port n w) h (record { low = low; high = high; driven = tt })
 
 -- the net of an added input means the input's signal
@@ -183,9 +184,9 @@ extents_input c n w ins ns h x = record {
   cells = λ k l. subst (λ (s : Signal). IsExtent s (extent_in ns k)) (sym ((port_keeps c (input_port n w) h).nets (CellNet k) l).same) (x.cells k l);
 }
 
--- an output more of a net that is there, of 1 to 64 bits, leaves a circuit well formed
+-- an output more of a net that is there, of 1 to widest bits, leaves a circuit well formed
 pub well_output : (c : Circuit) (n : List ℕ) (x : Net) → IsWell c → IsThere c x
-    → 1 ≤ (signal c x).width → (signal c x).width ≤ 64 → IsWell (with_port c (output_port c n x))
+    → 1 ≤ (signal c x).width → (signal c x).width ≤ widest → IsWell (with_port c (output_port c n x))
 well_output c n x w t low high = well_port c (output_port c n x) w (record { low = low; high = high; driven = (t, refl) })
 
 -- with an output more, what is known of inputs and cells stays true

@@ -11,6 +11,7 @@ use Rattle.pdl_net.specs.Circuit.{State}
 use Rattle.pdl_net.specs.Signal.{Signal, bin_signal, bin_width, bin_word, const_value, bin_value}
 use Rattle.pdl_build.specs.Operators.{op_of, raised_signal}
 use Rattle.pdl_word.proofs.Numbers.{as_wide}
+use Rattle.pdl_word.specs.Words.{widest}
 
 -- WIDTHS
 
@@ -30,7 +31,7 @@ op_widths ShiftRight w = refl
 
 -- BOUNDS
 
--- an operator's signal has 1 to 64 bits and fits them where both operands do, which are equally wide
+-- an operator's signal has 1 to widest bits and fits them where both operands do, which are equally wide
 pub op_bounded : (s : State) (op : BinaryOp) (a b : Signal)
     → a.width ≡ b.width → IsBounded s a → IsBounded s b → IsBounded s (bin_signal (op_of op) a b)
 unfolding bin_value
@@ -49,7 +50,7 @@ op_bounded s ShiftLeft a b e p q = record { low = p.low; high = p.high; fits = s
 op_bounded s ShiftRight a b e p q = record { low = p.low; high = p.high; fits = shr_below a.width (a.value s) (b.value s) p.fits }
 
 -- a signal of n bits with a value that fits them
-pub bounded_at : (s : State) (f : Signal) (n : ℕ) → f.width ≡ n → 1 ≤ n → n ≤ 64 → f.value s < 2 ^ n → IsBounded s f
+pub bounded_at : (s : State) (f : Signal) (n : ℕ) → f.width ≡ n → 1 ≤ n → n ≤ widest → f.value s < 2 ^ n → IsBounded s f
 bounded_at s f n e l h v = record { low = omega (arith, e); high = omega (arith, e); fits = as_wide (f.value s) n f.width (sym e) v }
 
 -- VALUES

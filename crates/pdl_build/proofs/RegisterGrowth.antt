@@ -22,6 +22,7 @@ use Rattle.pdl_build.specs.Change.{new_reg, with_reg, next_reg, with_next, new_s
 use Rattle.pdl_build.specs.declared.Extent.{Extent}
 use Rattle.pdl_build.specs.Parts.{HaveExtents}
 use Rattle.pdl_build.proofs.CellGrowth.{all_fit_still, extents_still, get_pushed}
+use Rattle.pdl_word.specs.Words.{widest}
 
 -- a register
 
@@ -76,8 +77,8 @@ is_new_reg c w v = record {
   next = ap (λ (q : Reg). signal (with_reg c w v) q.next) (reg_here c w v) ∙ (means_reg c w v).same;
 }
 
--- a register more of 1 to 64 bits, whose reset value fits them, leaves a circuit well formed
-pub well_reg : (c : Circuit) (w v : ℕ) → IsWell c → 1 ≤ w → w ≤ 64 → v < 2 ^ w → IsWell (with_reg c w v)
+-- a register more of 1 to widest bits, whose reset value fits them, leaves a circuit well formed
+pub well_reg : (c : Circuit) (w v : ℕ) → IsWell c → 1 ≤ w → w ≤ widest → v < 2 ^ w → IsWell (with_reg c w v)
 well_reg c w v h low high fits =
     let d = with_reg c w v in
     let g = new_reg c w v in
@@ -236,8 +237,8 @@ is_new_array c n w d = record {
   writes = ap (λ (x : Array). map (write_signal (with_array c n w d)) x.writes) (array_here c n w d);
 }
 
--- an array more of 1 to 64 bits, with the depth of an array, leaves a circuit well formed
-pub well_array : (c : Circuit) (n : List ℕ) (w d : ℕ) → IsWell c → 1 ≤ w → w ≤ 64 → IsDepth d → IsWell (with_array c n w d)
+-- an array more of 1 to widest bits, with the depth of an array, leaves a circuit well formed
+pub well_array : (c : Circuit) (n : List ℕ) (w d : ℕ) → IsWell c → 1 ≤ w → w ≤ widest → IsDepth d → IsWell (with_array c n w d)
 well_array c n w d h low high is =
     let b = with_array c n w d in
     let a = new_array n w d in

@@ -15,6 +15,7 @@ use Rattle.pdl_net.specs.Well.{Fits, IsWidth}
 use Rattle.pdl_build.specs.declared.rules.OperatorRule.{OperatorRule}
 use Rattle.pdl_build.specs.declared.rules.OperatorRule.TheVariants.{First, Second, Complement, Number}
 use Rattle.pdl_build.specs.Rules.{Gives, IsBelow}
+use Rattle.pdl_word.specs.Words.{widest}
 
 -- OPERATORS
 
@@ -77,7 +78,7 @@ module _ (op : BinOp) (a b : Signal) where
       ap (λ (v : Value). record { width = w; value = v }) (fun_ext (λ s. sym (g s).1))
       ∙ ap (λ (m : ℕ). record { width = m; value = bin_value op a.width a.value b.value }) e
 
-bin_wide : (op : BinOp) (w : ℕ) → 1 ≤ w → w ≤ 64 → IsWidth (bin_width op w)
+bin_wide : (op : BinOp) (w : ℕ) → 1 ≤ w → w ≤ widest → IsWidth (bin_width op w)
 bin_wide Add w l h = record { low = l; high = h }
 bin_wide Sub w l h = record { low = l; high = h }
 bin_wide Mul w l h = record { low = l; high = h }
@@ -90,8 +91,8 @@ bin_wide Lt w l h = record { low = lit≤ tt; high = lit≤ tt }
 bin_wide Shl w l h = record { low = l; high = h }
 bin_wide Shr w l h = record { low = l; high = h }
 
--- a number below that is told for an operator's result fits as a constant, where words have 1 to 64 bits
-pub number_fits : (c : Circuit) (op : BinOp) (w n u : ℕ) → w ≡ bin_width op u → 1 ≤ u → u ≤ 64 → n < 2 ^ bin_width op u → Fits c (Const w n)
+-- a number below that is told for an operator's result fits as a constant, where words have 1 to widest bits
+pub number_fits : (c : Circuit) (op : BinOp) (w n u : ℕ) → w ≡ bin_width op u → 1 ≤ u → u ≤ widest → n < 2 ^ bin_width op u → Fits c (Const w n)
 number_fits c op w n u e l h f =
     let b = bin_wide op u l h in
     (omega (arith, b.low, e), omega (arith, b.high, e), as_wide n (bin_width op u) w (sym e) f)

@@ -107,7 +107,7 @@ nothing_suits c =
           (array_at c m).width (ap (λ l. get_or l a 0) (at m h) ∙ zeros_at (array_at c m).depth a);
     }
 
--- each net has 1 to 64 bits
+-- each net has 1 to widest bits
 pub wide : (c : Circuit) → IsWell c → (x : Net) → IsThere c x → IsWidth (signal c x).width
 wide c w x t = let b = bounded c (nothing c) w (nothing_suits c) x t in record { low = b.low; high = b.high }
 

@@ -8,11 +8,13 @@ ghost use Rattle.pdl_net.specs.Well.{Fits};
 ghost use Rattle.pdl_net.specs.Growth.{Extends};
 ghost use Rattle.pdl_build.specs.Change.{with_cell};
 ghost use Rattle.pdl_build.specs.FoldedCells.{is_foldable};
+ghost use Rattle.pdl_word.specs.Words.{widest};
 
 use crate::simplify::Simple;
 use crate::{Builder, Extent};
 use pdl_kit::NoMemory;
 use pdl_net::{BinOp, Cell, Net};
+use pdl_word::Word;
 
 impl Builder {
     /// A net with the value of a cell, which reads nets that are there, with the widths that it takes; at most one cell is made, and none that is there already.
@@ -84,10 +86,10 @@ impl Builder {
         }
     }
 
-    /// A cell that is always this value, of 1 to 64 bits.
-    pub fn constant(&mut self, width: u8, value: u64) -> Result<Net, NoMemory>
+    /// A cell that is always this value, of 1 to `WIDEST` bits.
+    pub fn constant(&mut self, width: u8, value: Word) -> Result<Net, NoMemory>
         requires low { 1 ≤ width }
-        requires high { width ≤ 64 }
+        requires high { width ≤ widest }
         requires fits { value < 2 ^ width }
         ensures means { IfOk result (λ x. Means self.new x (const_signal width value)) }
         ensures extends { Extends self.old self.new }
@@ -147,11 +149,11 @@ impl Builder {
         self.cell(Cell::Slice { a, high, low })
     }
 
-    /// The net `a` above `b`, of at most 64 bits together.
+    /// The net `a` above `b`, of at most `WIDEST` bits together.
     pub fn cat(&mut self, a: Net, b: Net) -> Result<Net, NoMemory>
         requires a_there { IsThere self.old a }
         requires b_there { IsThere self.old b }
-        requires widths { (signal self.old a).width + (signal self.old b).width ≤ 64 }
+        requires widths { (signal self.old a).width + (signal self.old b).width ≤ widest }
         ensures means { IfOk result (λ x.
             Means self.new x (cat_signal (signal self.old a) (signal self.old b))) }
         ensures extends { Extends self.old self.new }
@@ -160,11 +162,11 @@ impl Builder {
         self.cell(Cell::Cat(a, b))
     }
 
-    /// A net `count` times in a row, of at most 64 bits together.
+    /// A net `count` times in a row, of at most `WIDEST` bits together.
     pub fn rep(&mut self, count: u8, a: Net) -> Result<Net, NoMemory>
         requires a_there { IsThere self.old a }
         requires some { 1 ≤ count }
-        requires widths { count * (signal self.old a).width ≤ 64 }
+        requires widths { count * (signal self.old a).width ≤ widest }
         ensures means { IfOk result (λ x. Means self.new x (rep_signal count (signal self.old a))) }
         ensures extends { Extends self.old self.new }
         ensures regs { self.new.regs ≡ self.old.regs }

@@ -5,6 +5,7 @@ ghost use Rattle.pdl_net.specs.Signal.{bin_signal};
 ghost use Rattle.pdl_net.specs.Meaning.{IsThere, Means, signal};
 ghost use Rattle.pdl_net.specs.Growth.{Extends};
 ghost use Rattle.pdl_build.specs.Operators.{zext_signal, sext_signal, raised_signal};
+ghost use Rattle.pdl_word.specs.Words.{widest};
 
 use crate::Builder;
 use pdl_kit::NoMemory;
@@ -16,7 +17,7 @@ impl Builder {
     pub fn zero_extend(&mut self, a: Net, width: u8) -> Result<Net, NoMemory>
         requires there { IsThere self.old a }
         requires wider { (signal self.old a).width ≤ width }
-        requires high { width ≤ 64 }
+        requires high { width ≤ widest }
         ensures means { IfOk result (λ x.
             Means self.new x (zext_signal width (signal self.old a))) }
         ensures extends { Extends self.old self.new }
@@ -35,7 +36,7 @@ impl Builder {
     pub fn sign_extend(&mut self, a: Net, width: u8) -> Result<Net, NoMemory>
         requires there { IsThere self.old a }
         requires wider { (signal self.old a).width ≤ width }
-        requires high { width ≤ 64 }
+        requires high { width ≤ widest }
         ensures means { IfOk result (λ x.
             Means self.new x (sext_signal width (signal self.old a))) }
         ensures extends { Extends self.old self.new }

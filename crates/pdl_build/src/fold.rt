@@ -5,10 +5,12 @@ ghost use Rattle.pdl_net.specs.Meaning.{IsThere, signal, cell_signal};
 ghost use Rattle.pdl_net.specs.Well.{Fits};
 ghost use Rattle.pdl_build.specs.FoldedCells.{is_foldable};
 ghost use Rattle.pdl_build.specs.Rules.{FoldsTo};
+ghost use Rattle.pdl_word.specs.Words.{widest};
 
 use crate::Builder;
 use pdl_net::{BinOp, Cell, Net};
 use pdl_word as word;
+use pdl_word::Word;
 
 impl Builder {
     /// The constant that a cell gives, where its operands are all constants, else the cell.
@@ -31,7 +33,7 @@ impl Builder {
 
     /// The value of a cell whose operands are all constants.
     #[tactic(auto, using(crate::proofs::Folds::not_of, crate::proofs::Folds::slice_of, crate::proofs::Folds::rep_of))]
-    fn value(&self, cell: Cell) -> Option<u64>
+    fn value(&self, cell: Cell) -> Option<Word>
         requires { Fits self.now cell }
         ensures { FoldsTo self.now cell result }
     {
@@ -57,7 +59,7 @@ impl Builder {
     }
 
     #[tactic(auto, using(crate::proofs::Folds::and_right, crate::proofs::Folds::bin_of))]
-    fn value_of_bin(&self, op: BinOp, a: Net, b: Net) -> Option<u64>
+    fn value_of_bin(&self, op: BinOp, a: Net, b: Net) -> Option<Word>
         requires { Fits self.now (Cell.Bin op a b) }
         ensures { FoldsTo self.now (Cell.Bin op a b) result }
     {
@@ -67,7 +69,7 @@ impl Builder {
     }
 
     #[tactic(auto, using(crate::proofs::Folds::and_right, crate::proofs::Folds::mux_of))]
-    fn value_of_mux(&self, choice: Net, a: Net, b: Net) -> Option<u64>
+    fn value_of_mux(&self, choice: Net, a: Net, b: Net) -> Option<Word>
         requires { Fits self.now (Cell.Mux choice a b) }
         ensures { FoldsTo self.now (Cell.Mux choice a b) result }
     {
@@ -78,7 +80,7 @@ impl Builder {
     }
 
     #[tactic(auto, using(crate::proofs::Folds::and_right, crate::proofs::Folds::cat_of, pdl_word::proofs::Bounds::fits_above))]
-    fn value_of_cat(&self, a: Net, b: Net) -> Option<u64>
+    fn value_of_cat(&self, a: Net, b: Net) -> Option<Word>
         requires { Fits self.now (Cell.Cat a b) }
         ensures { FoldsTo self.now (Cell.Cat a b) result }
     {
@@ -93,9 +95,9 @@ impl Builder {
 
 /// What an operator gives on two words of `width` bits.
 #[tactic(auto, unfolding(pdl_word::specs::Words::and, pdl_word::specs::Words::or, pdl_word::specs::Words::xor))]
-fn of_words(op: BinOp, width: u8, x: u64, y: u64) -> u64
+fn of_words(op: BinOp, width: u8, x: Word, y: Word) -> Word
     requires low { 1 ≤ width }
-    requires high { width ≤ 64 }
+    requires high { width ≤ widest }
     requires x_fits { x < 2 ^ width }
     requires y_fits { y < 2 ^ width }
     ensures { result ≡ bin_word op width x y }

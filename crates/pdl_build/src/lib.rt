@@ -20,10 +20,12 @@ ghost use Rattle.pdl_net.specs.Well.{Fits, IsWell, IsDepth};
 ghost use Rattle.pdl_net.specs.Growth.{Extends, ExtendsBut, ExtendsPorts, ExtendsArrays};
 ghost use Rattle.pdl_build.specs.FoldedCells.{AreFolded};
 ghost use Rattle.pdl_build.specs.Change.{empty_circuit, with_port, input_port, output_port, with_reg, with_next, new_shape, with_array, with_write, write_port, one_reg, one_array, IsNewReg, IsNewArray};
+ghost use Rattle.pdl_word.specs.Words.{widest};
 
 use distinct::DistinctCells;
 use pdl_kit::{MemInfo, Name, NoMemory, Seq};
 use pdl_net::{Array, BinOp, Cell, Dir, Net, Netlist, Port, Reg, WritePort};
+use pdl_word::Word;
 use std::alloc::Global;
 use std::marker::Model;
 
@@ -103,12 +105,12 @@ impl Builder {
         self.cells.len()
     }
 
-    /// The width of a net in bits, 1 to 64.
+    /// The width of a net in bits, 1 to `WIDEST`.
     pub fn width(&self, net: Net) -> u8
         requires { IsThere self.now net }
         ensures value { result ≡ (signal self.now net).width }
         ensures low { 1 ≤ result }
-        ensures high { result ≤ 64 }
+        ensures high { result ≤ widest }
     {
         match net {
             Net::Input(i) => self.input_widths[i],
@@ -134,10 +136,10 @@ impl Builder {
         }
     }
 
-    /// One more input, of 1 to 64 bits.
+    /// One more input, of 1 to `WIDEST` bits.
     pub fn input(&mut self, name: &Name, width: u8) -> Result<Net, NoMemory>
         requires low { 1 ≤ width }
-        requires high { width ≤ 64 }
+        requires high { width ≤ widest }
         ensures exact { OnOk result (self.new ≡ with_port self.old (input_port name.now width)) }
         ensures place { IfOk result (λ x. x ≡ Net.Input (length (inputs_of self.old))) }
         ensures means { IfOk result (λ x.
@@ -173,10 +175,10 @@ impl Builder {
         Ok(at)
     }
 
-    /// One more register, of 1 to 64 bits; it keeps its value until `next` says otherwise.
-    pub fn reg(&mut self, width: u8, reset: u64) -> Result<usize, NoMemory>
+    /// One more register, of 1 to `WIDEST` bits; it keeps its value until `next` says otherwise.
+    pub fn reg(&mut self, width: u8, reset: Word) -> Result<usize, NoMemory>
         requires low { 1 ≤ width }
-        requires high { width ≤ 64 }
+        requires high { width ≤ widest }
         requires fits { reset < 2 ^ width }
         ensures exact { OnOk result (self.new ≡ with_reg self.old width reset) }
         ensures place { IfOk result (λ r. r ≡ length self.old.regs) }
@@ -201,10 +203,10 @@ impl Builder {
         self.regs[reg].next = net;
     }
 
-    /// One more array, of `depth` words of 1 to 64 bits; the depth is a power of two from 2 to 131,072.
+    /// One more array, of `depth` words of 1 to `WIDEST` bits; the depth is a power of two from 2 to 131,072.
     pub fn array(&mut self, name: &Name, width: u8, depth: u32) -> Result<usize, NoMemory>
         requires low { 1 ≤ width }
-        requires high { width ≤ 64 }
+        requires high { width ≤ widest }
         requires depth { IsDepth depth }
         ensures exact { OnOk result (self.new ≡ with_array self.old name.now width depth) }
         ensures place { IfOk result (λ m. m ≡ length self.old.arrays) }

@@ -1,9 +1,10 @@
 // What an operator gives on one net twice, or on a net and a constant: one row for each rule.
 ghost use Rattle.std.specs.Prelude.{◌≡◌, ℕ, ◌<◌, ◌≤◌, ◌^◌, IsTrue};
 ghost use Rattle.pdl_build.specs.Rules.{Gives};
+ghost use Rattle.pdl_word.specs.Words.{widest};
 
 use pdl_net::BinOp;
-use pdl_word::mask;
+use pdl_word::{Word, mask};
 
 /// What an operator on two words gives: one of them, the complement of the first, a number, or what no rule tells.
 #[derive(Clone, Copy)]
@@ -11,7 +12,7 @@ pub enum OperatorRule {
     First,
     Second,
     Complement,
-    Number(u64),
+    Number(Word),
     Itself,
 }
 
@@ -32,13 +33,13 @@ pub fn on_one_word(op: BinOp) -> OperatorRule
 }
 
 /// What an operator gives where the second operand is a constant; `below` tells that the first is a word of `width` bits in every state.
-pub fn on_constant(op: BinOp, width: u8, value: u64, below: bool) -> OperatorRule
+pub fn on_constant(op: BinOp, width: u8, value: Word, below: bool) -> OperatorRule
     requires low { 1 ≤ width }
-    requires high { width ≤ 64 }
+    requires high { width ≤ widest }
     ensures { (x : ℕ) → (IsTrue below → x < 2 ^ width) → Gives result op width x value }
 {
     let ones = mask(width);
-    let bits = u64::from(width);
+    let bits = Word::from(width);
     match op {
         BinOp::And if value == 0 => OperatorRule::Second,
         BinOp::And if value == ones && below => OperatorRule::First,
@@ -60,7 +61,7 @@ pub fn on_constant(op: BinOp, width: u8, value: u64, below: bool) -> OperatorRul
 }
 
 /// What an operator gives where the first operand is a constant; `below` tells that the second is a word of `width` bits in every state.
-pub fn after_constant(op: BinOp, width: u8, value: u64, below: bool) -> OperatorRule
+pub fn after_constant(op: BinOp, width: u8, value: Word, below: bool) -> OperatorRule
     ensures { (y : ℕ) → (IsTrue below → y < 2 ^ width) → Gives result op width value y }
 {
     match op {

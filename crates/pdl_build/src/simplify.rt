@@ -12,6 +12,7 @@ use crate::rules::{OperatorRule, after_constant, on_constant, on_one_word};
 use crate::same::is_same_net;
 use crate::{Builder, bin_width};
 use pdl_net::{BinOp, Cell, Net};
+use pdl_word::Word;
 
 /// What stands for a cell.
 #[derive(Clone, Copy)]
@@ -171,7 +172,7 @@ impl Builder {
     }
 
     /// The value of a net that is a constant, none of any other net.
-    pub fn constant_of(&self, net: Net) -> Option<u64>
+    pub fn constant_of(&self, net: Net) -> Option<Word>
         requires { IsThere self.now net }
         ensures value { IfSome result (λ v. (signal self.now net).value ≡ const_value v) }
         ensures fits { IfSome result (λ v. v < 2 ^ (signal self.now net).width) }

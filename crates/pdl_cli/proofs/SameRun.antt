@@ -1,5 +1,5 @@
 -- What `build` writes for a source runs as the source does.
-use Rattle.std.proofs.Common.{◌≡◌, ◌≢◌, ℕ, List, [], ◌∷◌, Option, Some, None, Result, Ok, Err, AllPairs, length, refl, sym, ap, subst, ◌∙◌}
+use Rattle.std.proofs.Common.{◌≡◌, ◌≢◌, ℕ, List, [], ◌∷◌, Option, Some, None, Result, Ok, Err, AllPairs, length, inl, inr, refl, sym, ap, subst, ◌∙◌, Bool}
 use Rattle.std.specs.Prelude.{◌↔◌}
 use Rattle.pdl_kit.specs.declared.mem_info.MemInfo.{MemInfo}
 use Rattle.pdl_kit.specs.declared.rule.Rule.{Rule}
@@ -37,20 +37,21 @@ use Rattle.pdl_rules.specs.Memories.{infos_of}
 
 -- ---- images that are taken
 
-taken_after : (mems : List MemInfo) (text : List ℕ) (words rest : List (List ℕ)) (o : Option FileError)
+taken_after : (mems : List MemInfo) (text : List ℕ) (ranged : Bool) (words rest : List (List ℕ)) (o : Option FileError)
     → AllPairs (λ a b. a.name ≢ b.name) mems → image mems text ≡ Ok words
-    → after_header (image_lines.lines text) ≡ Some rest → first_wrong mems [] 2 rest ≡ o → IsImage mems words
-taken_after mems text words rest None distinct e f g =
-    let k = image_read mems text rest (all_slots mems rest) f g refl in
-    whole mems rest (all_slots mems rest) words distinct g refl (cc (e, k))
-taken_after mems text words rest (Some refusal) distinct e f g =
-    let k = wrong_line mems text rest refusal f g in absurd (cc (e, k))
+    → after_header (image_lines.lines text) ≡ Some (ranged, rest) → first_wrong ranged mems [] 2 rest ≡ o → IsImage mems words
+taken_after mems text ranged words rest None distinct e f g =
+    let k = image_read ranged mems text rest (all_slots ranged mems rest) f g refl in
+    whole ranged mems rest (all_slots ranged mems rest) words distinct g refl (cc (e, k))
+taken_after mems text ranged words rest (Some refusal) distinct e f g =
+    let k = wrong_line mems text ranged rest refusal f g in absurd (cc (e, k))
 
-taken_image : (mems : List MemInfo) (text : List ℕ) (words : List (List ℕ)) (o : Option (List (List ℕ)))
+taken_image : (mems : List MemInfo) (text : List ℕ) (words : List (List ℕ)) (o : Option (Bool × List (List ℕ)))
     → AllPairs (λ a b. a.name ≢ b.name) mems → image mems text ≡ Ok words → after_header (image_lines.lines text) ≡ o
     → IsImage mems words
 taken_image mems text words None distinct e f = let k = no_header mems text f in absurd (cc (e, k))
-taken_image mems text words (Some rest) distinct e f = taken_after mems text words rest (first_wrong mems [] 2 rest) distinct e f refl
+taken_image mems text words (Some h) distinct e f =
+    taken_after mems text h.0 words h.1 (first_wrong h.0 mems [] 2 h.1) distinct e f refl
 
 -- ---- images in another order of memories
 

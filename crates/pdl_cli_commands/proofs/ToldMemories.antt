@@ -1,4 +1,4 @@
--- The memories of an accepted source as they are told, in declared order and in a netlist's: their names differ and are short, and their words have 1 to 64 bits.
+-- The memories of an accepted source as they are told, in declared order and in a netlist's: their names differ and are short, and their words have 1 to widest bits.
 use Rattle.std.proofs.Common.{◌≡◌, ◌≢◌, ℕ, zero, suc, [], ◌∷◌, ◌++◌, ◌+◌, ◌≤◌, ◌<◌, false, cond, List, length, map, get_or, All, AllPairs, append-nil, refl, sym, ap, ◌∙◌, subst, inl, inr, bytes_eq, arith}
 use Rattle.std.specs.Prelude.{filter, count_by}
 use Rattle.std.specs.List.{AllByRecursion}
@@ -25,6 +25,7 @@ use Rattle.pdl_law_follows.specs.Follows.{Follows}
 use Rattle.pdl_law_follows.proofs.Memories.{among_some, some_count, told_delayed, all_told, none_told}
 use Rattle.pdl_law_follows.proofs.FollowsMade.{declared}
 use Rattle.pdl_cli_commands.proofs.ShortNames.{HaveShortNames, short_names}
+use Rattle.pdl_word.specs.Words.{widest}
 
 -- ---- names that differ
 
@@ -68,10 +69,10 @@ pub widths_low : (p : Pipe) (ms : List MemInfo) → KeepsRules p → ms ≡ info
 widths_low p ms kept e =
     subst (All (λ (m : MemInfo). 1 ≤ m.width)) (sym e) (told_all (λ m. 1 ≤ m.width) p.mems (λ m a. (sized_among p.mems (declared p kept).sized m a).low))
 
--- the words of each memory of a pipe that keeps the rules have at most 64 bits
-pub widths_high : (p : Pipe) (ms : List MemInfo) → KeepsRules p → ms ≡ infos_of p.mems → All (λ m. m.width ≤ 64) ms
+-- the words of each memory of a pipe that keeps the rules have at most widest bits
+pub widths_high : (p : Pipe) (ms : List MemInfo) → KeepsRules p → ms ≡ infos_of p.mems → All (λ m. m.width ≤ widest) ms
 widths_high p ms kept e =
-    subst (All (λ (m : MemInfo). m.width ≤ 64)) (sym e) (told_all (λ m. m.width ≤ 64) p.mems (λ m a. (sized_among p.mems (declared p kept).sized m a).high))
+    subst (All (λ (m : MemInfo). m.width ≤ widest)) (sym e) (told_all (λ m. m.width ≤ widest) p.mems (λ m a. (sized_among p.mems (declared p kept).sized m a).high))
 
 short_one : (ms : List Mem) → HaveShortNames ms → (m : Mem) → Among m ms → length m.name.name ≤ 32
 short_one [] h m a = absurd a

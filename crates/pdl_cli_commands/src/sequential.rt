@@ -15,6 +15,7 @@ ghost use Rattle.pdl_trace.specs.Passed.{Passes, WritesText};
 ghost use Rattle.pdl_cli_commands.specs.Commands.{IsAccepted};
 ghost use Rattle.pdl_cli_commands.specs.Outcomes.{Streamed};
 ghost use Rattle.pdl_rules.specs.Memories.{infos_of};
+ghost use Rattle.pdl_word.specs.Words.{widest};
 
 use pdl_check::Accepted;
 use pdl_cli_failure::Failure;
@@ -33,7 +34,7 @@ fn push_write<O: Sink>(
     write: Write,
 ) -> Result<(), WriteFailed>
     requires names { All (λ m. length m.name ≤ 32) mems.now }
-    requires widths { All (λ m. m.width ≤ 64) mems.now }
+    requires widths { All (λ m. m.width ≤ widest) mems.now }
     requires there { write.mem < length mems.now }
     ensures bytes { Passes (O.written out.old) (O.written out.new) result
         (lines.old ++ write_line (map column_of mems.now) write) lines.new }
@@ -53,7 +54,7 @@ fn push_writes<O: Sink>(
     writes: &[Write],
 ) -> Result<(), WriteFailed>
     requires names { All (λ m. length m.name ≤ 32) mems.now }
-    requires widths { All (λ m. m.width ≤ 64) mems.now }
+    requires widths { All (λ m. m.width ≤ widest) mems.now }
     requires there { All (λ w. w.mem < length mems.now) writes.now }
     ensures bytes { Passes (O.written out.old) (O.written out.new) result
         (lines.old ++ flat_map (write_line (map column_of mems.now)) writes.now) lines.new }
@@ -74,7 +75,7 @@ fn push_threads<O: Sink>(
     threads: u32,
 ) -> Result<(), WriteFailed>
     requires names { All (λ m. length m.name ≤ 32) mems.now }
-    requires widths { All (λ m. m.width ≤ 64) mems.now }
+    requires widths { All (λ m. m.width ≤ widest) mems.now }
     requires mems { length (form run.old.pipe).pipe.mems ≡ length mems.now }
     requires first { run.old.run ≡ 0 }
     requires streams { run.old.streams ≡ true }
@@ -102,7 +103,7 @@ fn push_run<O: Sink>(
     threads: u32,
 ) -> Result<(), WriteFailed>
     requires names { All (λ m. length m.name ≤ 32) mems.now }
-    requires widths { All (λ m. m.width ≤ 64) mems.now }
+    requires widths { All (λ m. m.width ≤ widest) mems.now }
     requires mems { length (form run.old.pipe).pipe.mems ≡ length mems.now }
     requires first { run.old.run ≡ 0 }
     requires streams { run.old.streams ≡ true }
@@ -128,7 +129,7 @@ fn print_run<O: Sink>(
     threads: u32,
 ) -> Result<(), WriteFailed>
     requires names { All (λ m. length m.name ≤ 32) mems.now }
-    requires widths { All (λ m. m.width ≤ 64) mems.now }
+    requires widths { All (λ m. m.width ≤ widest) mems.now }
     requires mems { length (form run.old.pipe).pipe.mems ≡ length mems.now }
     requires first { run.old.run ≡ 0 }
     requires streams { run.old.streams ≡ true }

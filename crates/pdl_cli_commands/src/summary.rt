@@ -1,9 +1,10 @@
 // The end line of a run of a source from given words.
-ghost use Rattle.std.specs.Prelude.{◌≡◌, ◌≤◌, ◌%◌, ◌^◌, ℕ, List, All, IfOk, IfErr, length, slice_index};
+ghost use Rattle.std.specs.Prelude.{◌≡◌, ◌≤◌, ◌%◌, ◌^◌, ℕ, List, All, IfOk, IfErr, length};
 ghost use Rattle.pdl_kit.specs.declared.files.TheConstants.{LONGEST_FILE};
 ghost use Rattle.pdl_syntax_tree.specs.View.{pipe_view};
 ghost use Rattle.pdl_cli_commands.specs.Commands.{IsAccepted, IsSummary, TextFails};
 ghost use Rattle.pdl_cli_commands.specs.Summaries as spec;
+ghost use Rattle.pdl_word.specs.Words.{widest};
 
 use pdl_check::Accepted;
 use pdl_check::check::check;
@@ -13,47 +14,37 @@ use pdl_kit::{MemInfo, NoMemory, Seq};
 use pdl_netrun_lines::{Schedule, count};
 use pdl_pipe::compile;
 use pdl_trace::{Line, end_line};
-use pdl_word::mask;
+use pdl_word::{Word, mask, word_at};
 use std::alloc::Global;
 use std::mem::drop;
 
-// The word at an address; past the last one it is 0.
-fn word_at(words: &[u64], address: usize) -> u64
-    ensures { result ≡ slice_index words.now address }
-{
-    match words.get(address) {
-        Some(word) => *word,
-        None => 0,
-    }
-}
-
 // A word cut to a width.
 #[tactic(auto, using(pdl_word::proofs::Masks::and_with_mask))]
-fn cut_to(word: u64, width: u8) -> u64
+fn cut_to(word: Word, width: u8) -> Word
     requires low { 1 ≤ width }
-    requires high { width ≤ 64 }
+    requires high { width ≤ widest }
     ensures { result ≡ word % 2 ^ width }
 {
     word & mask(width)
 }
 
 // The first of the words, as many as a memory has, each cut to its width, with zeros after them.
-fn words_in(alloc: Global, words: &[u64], mem: &MemInfo) -> Result<Seq<u64>, NoMemory>
+fn words_in(alloc: Global, words: &[Word], mem: &MemInfo) -> Result<Seq<Word>, NoMemory>
     requires low { 1 ≤ mem.now.width }
-    requires high { mem.now.width ≤ 64 }
+    requires high { mem.now.width ≤ widest }
     ensures { IfOk result (λ kept. kept ≡ spec.words_in words.now mem.now) }
 {
     let mut kept = Seq::new(alloc);
     for address in 0..mem.depth {
-        kept.push(cut_to(word_at(words, address as usize), mem.width))?;
+        kept.push(cut_to(word_at(words, Word::from(address)), mem.width))?;
     }
     Ok(kept)
 }
 
 // An image with the same words in each memory.
-fn image_of(alloc: Global, words: &[u64], mems: &[MemInfo]) -> Result<Image, NoMemory>
+fn image_of(alloc: Global, words: &[Word], mems: &[MemInfo]) -> Result<Image, NoMemory>
     requires low { All (λ m. 1 ≤ m.width) mems.now }
-    requires high { All (λ m. m.width ≤ 64) mems.now }
+    requires high { All (λ m. m.width ≤ widest) mems.now }
     ensures { IfOk result (λ image. image ≡ spec.image_of words.now mems.now) }
 {
     let mut all = Seq::new(alloc);
@@ -64,7 +55,7 @@ fn image_of(alloc: Global, words: &[u64], mems: &[MemInfo]) -> Result<Image, NoM
 }
 
 // The end line of a run of an accepted pipe: the summary for each source that is its text.
-fn end_of(alloc: Global, accepted: &Accepted, words: &[u64], cycles: u32) -> Result<Line, NoMemory>
+fn end_of(alloc: Global, accepted: &Accepted, words: &[Word], cycles: u32) -> Result<Line, NoMemory>
     requires few { cycles ≤ 1000000 }
     ensures { IfOk result (λ line. (source : List ℕ)
         → IsAccepted source (pipe_view accepted.now.typed.pipe)
@@ -82,7 +73,7 @@ fn end_of(alloc: Global, accepted: &Accepted, words: &[u64], cycles: u32) -> Res
 }
 
 /// The end line of a run of a source of at most `LONGEST_FILE` bytes: of so many cycles, from these words in each memory of its pipe, with all requests answered.
-pub fn summary(alloc: Global, source: &[u8], words: &[u64], cycles: u32) -> Result<Line, Failure>
+pub fn summary(alloc: Global, source: &[u8], words: &[Word], cycles: u32) -> Result<Line, Failure>
     requires short { length source.now ≤ LONGEST_FILE }
     requires few { cycles ≤ 1000000 }
     ensures ok { IfOk result (λ line. IsSummary source.now words.now cycles line) }

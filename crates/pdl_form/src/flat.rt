@@ -7,6 +7,7 @@ ghost use Rattle.pdl_form.specs.Form.{rows_below};
 
 use crate::form::{FlatMem, FlatStage, FlatStmt};
 use pdl_kit::Seq;
+use pdl_word::Word;
 
 /// A pipe in flat form: what its threads, its machine and its circuit are made from.
 pub struct FlatPipe {
@@ -14,7 +15,7 @@ pub struct FlatPipe {
     pub(crate) mems: Vec<FlatMem>,
     pub(crate) stmts: Vec<FlatStmt>,
     pub(crate) stages: Vec<FlatStage>,
-    pub(crate) start: Vec<u64>,
+    pub(crate) start: Vec<Word>,
     pub(crate) reserved: Vec<Option<usize>>,
     pub(crate) released: Vec<Option<usize>>,
     pub(crate) verified: Option<usize>,

@@ -1,13 +1,14 @@
 // The parts of a flat form. Variables, memories and stages are numbers, counted from 0.
 use pdl_kit::{Boxed, Name, Seq};
 use pdl_syntax_tree::{BinaryOp, MemKind};
+use pdl_word::Word;
 
 /// An expression over numbered variables, with the widths in bits that its value needs: `width` is that of the operands, in `Constant` that of the value, and `wide` that of an extended value. In `Cat` it is that of `b`, the lower part.
 #[derive(Drop)]
 pub enum FlatExpr {
     Constant {
         width: u8,
-        value: u64,
+        value: Word,
     },
     Variable(usize),
     Slice {

@@ -11,6 +11,7 @@ use crate::form::{FlatMem, FlatStage, FlatStmt};
 use crate::rows::{all_rows, release_stages, reserve_stages};
 use crate::stmts::{update_stage, verify_stage};
 use pdl_kit::NoMemory;
+use pdl_word::Word;
 use std::alloc::Global;
 
 impl FlatPipe {
@@ -21,7 +22,7 @@ impl FlatPipe {
         mems: Vec<FlatMem>,
         stmts: Vec<FlatStmt>,
         stages: Vec<FlatStage>,
-        start: Vec<u64>,
+        start: Vec<Word>,
     ) -> Result<FlatPipe, NoMemory>
         ensures { IfOk result (λ f. form f
             ≡ form_with widths.items (mems_view mems.items) (mem_names mems.items)
@@ -97,7 +98,7 @@ impl FlatPipe {
     }
 
     /// Lends the first thread's arguments.
-    pub fn start(&self) -> &[u64]
+    pub fn start(&self) -> &[Word]
         ensures { result.now ≡ (form self.now).pipe.start }
     {
         self.start.as_slice()

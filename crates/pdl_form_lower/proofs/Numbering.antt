@@ -8,6 +8,7 @@ use Rattle.pdl_rules_widths.specs.Variables.{number_among}
 use Rattle.pdl_form_lower.specs.declared.vars.NumberedVariable.{NumberedVariable}
 use Rattle.pdl_form_lower.specs.Variables.{Scope, name_in, name_at, vars_of, var_view, number_or, with_number, AreNumbered}
 use Rattle.pdl_word.proofs.Bytes.{bytes_same, bytes_refl}
+use Rattle.pdl_word.specs.Words.{widest}
 
 -- ONE LOOK-UP
 
@@ -185,15 +186,15 @@ number_there (o ∷ ns) (suc k) (suc j) n d = number_there ns k j n (λ e. d (ap
 
 -- ONE VARIABLE MORE
 
-small_step : (b : Bool) (w a c : ℕ) → (a ≤ 64 → c ≤ 64) → (if b then w else a) ≤ 64 → (if b then w else c) ≤ 64
+small_step : (b : Bool) (w a c : ℕ) → (a ≤ widest → c ≤ widest) → (if b then w else a) ≤ widest → (if b then w else c) ≤ widest
 small_step true w a c ih h = h
 small_step false w a c ih h = ih h
 
-small_end : (b : Bool) (w : ℕ) → w ≤ 64 → (if b then w else 0) ≤ 64
+small_end : (b : Bool) (w : ℕ) → w ≤ widest → (if b then w else 0) ≤ widest
 small_end true w h = h
 small_end false w h = omega arith
 
-small_push : (vs : List Var) (v : Var) (x : List ℕ) → v.width ≤ 64 → var_width vs x ≤ 64 → var_width (vs ++ v ∷ []) x ≤ 64
+small_push : (vs : List Var) (v : Var) (x : List ℕ) → v.width ≤ widest → var_width vs x ≤ widest → var_width (vs ++ v ∷ []) x ≤ widest
 small_push [] v x w h = small_end (bytes_eq v.name x) v.width w
 small_push (u ∷ vs) v x w h = small_step (bytes_eq u.name x) u.width (var_width vs x) (var_width (vs ++ v ∷ []) x) (λ k. small_push vs v x w k) h
 
@@ -222,7 +223,7 @@ places_differ us x y j k d h i e =
     cc
 
 -- with a variable of the table more, its place has its number
-numbered_known : (us : List Var) (ns : List (Option ℕ)) (vs : List Var) (v : Var) (k : ℕ) → AreNumbered us ns vs → v.width ≤ 64
+numbered_known : (us : List Var) (ns : List (Option ℕ)) (vs : List Var) (v : Var) (k : ℕ) → AreNumbered us ns vs → v.width ≤ widest
     → number_among us v.name ≡ Some k → AreNumbered us (with_number ns k (length vs)) (vs ++ v ∷ [])
 numbered_known us ns vs v k h small at' =
     record {
@@ -243,7 +244,7 @@ numbered_known us ns vs v k h small at' =
         ∙ ap Some (sym (number_old vs v x e))
 
 -- with a variable more that isn't in the table, the numbers stay right
-numbered_unknown : (us : List Var) (ns : List (Option ℕ)) (vs : List Var) (v : Var) → AreNumbered us ns vs → v.width ≤ 64
+numbered_unknown : (us : List Var) (ns : List (Option ℕ)) (vs : List Var) (v : Var) → AreNumbered us ns vs → v.width ≤ widest
     → number_among us v.name ≡ None → AreNumbered us ns (vs ++ v ∷ [])
 numbered_unknown us ns vs v h small at' =
     record {
@@ -290,7 +291,7 @@ vars_more us vs ws s x w b o v e h g = more us vs ws s x w b o v e h g ∙ ap (�
 -- with a variable of the table more, the numbers are right
 pub more_known : (us : List Var) (ns os : List (Option ℕ)) (vs ws : List NumberedVariable) (s : Scope) (x : List ℕ) (w k n : ℕ) (b : Bool) (o : Option ℕ)
     → record { table = us; vars = vars_of us vs } ≡ s → o ≡ number_among us x → IsTrue (bytes_eq x [] || is_named s.table x)
-    → ws ≡ vs ++ record { place = o; width = w; advised = b } ∷ [] → AreNumbered us ns (vars_of us vs) → w ≤ 64
+    → ws ≡ vs ++ record { place = o; width = w; advised = b } ∷ [] → AreNumbered us ns (vars_of us vs) → w ≤ widest
     → o ≡ Some k → n ≡ length vs → os ≡ with_number ns k n → AreNumbered us os (vars_of us ws)
 more_known us ns os vs ws s x w k n b o v e h g a small at' long i =
     subst (AreNumbered us os) (sym (more us vs ws s x w b o v e h g))
@@ -301,7 +302,7 @@ more_known us ns os vs ws s x w k n b o v e h g a small at' long i =
 -- with a guard more, the numbers stay right
 pub more_unknown : (us : List Var) (ns : List (Option ℕ)) (vs ws : List NumberedVariable) (s : Scope) (x : List ℕ) (w : ℕ) (b : Bool) (o : Option ℕ)
     → record { table = us; vars = vars_of us vs } ≡ s → o ≡ number_among us x → IsTrue (bytes_eq x [] || is_named s.table x)
-    → ws ≡ vs ++ record { place = o; width = w; advised = b } ∷ [] → AreNumbered us ns (vars_of us vs) → w ≤ 64
+    → ws ≡ vs ++ record { place = o; width = w; advised = b } ∷ [] → AreNumbered us ns (vars_of us vs) → w ≤ widest
     → o ≡ None → AreNumbered us ns (vars_of us ws)
 more_unknown us ns vs ws s x w b o v e h g a small at' =
     subst (AreNumbered us ns) (sym (more us vs ws s x w b o v e h g))

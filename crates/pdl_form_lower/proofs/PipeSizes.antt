@@ -24,6 +24,7 @@ use Rattle.pdl_form_lower.proofs.Widths.{Small, lowerable_typed, small_more, sma
 use Rattle.pdl_rules.proofs.Memories.{of_each}
 use Rattle.pdl_rules.proofs.SingleWrites.{any_last}
 use Rattle.pdl_word.proofs.Bytes.{bytes_refl}
+use Rattle.pdl_word.specs.Words.{widest}
 
 -- MEMORIES AND PARAMETERS
 
@@ -38,9 +39,9 @@ sized_mem : (m : Mem) → breaks_z7 (Memory m) ≡ false → IsSizedMem m
 sized_mem m e =
     let parts = or_parts (not (is_width m.width.value && is_depth m.depth.value)) (is_some_and (is_wrong_lock m) m.lock) e in
     let both = and_parts (is_width m.width.value) (is_depth m.depth.value) (not-false _ parts.0) in
-    let width = and_parts (nat_le 1 m.width.value) (nat_le m.width.value 64) both.0 in
+    let width = and_parts (nat_le 1 m.width.value) (nat_le m.width.value widest) both.0 in
     record {
-      width = leb-true _ 64 width.1;
+      width = leb-true _ widest width.1;
       depth = leb-true _ 65536 (of_each (λ n. nat_le n 65536) depths m.depth.value refl both.1);
       lock = sized_lock m m.lock parts.1;
     }
@@ -89,7 +90,7 @@ record Ready (all vs : List Var) (early : Use → Bool) : Type 0 where
   stays : Stays vs all
 
 lowerable_one : (all vs : List Var) (early : Use → Bool) → Ready all vs early → (e : Expr) → Fits early all (of_one e)
-    → IsLowerable all e × (width_of vs e ≤ 64)
+    → IsLowerable all e × (width_of vs e ≤ widest)
 lowerable_one all vs early r e f = lowerable_typed all vs r.stays r.small e (typed vs all early r.knows (λ x t. (r.stays x t).1) e f).0
 
 lowerable_all : (all vs : List Var) (early : Use → Bool) → Ready all vs early → (es : List Expr)
@@ -155,7 +156,7 @@ ready p vs before x later e b = record { small = b.small; knows = knows; stays =
         (and_cases (not (is_parameter p n)) _ h)
 
 -- one variable more
-more : (p : Pipe) (vs : List Var) (before : List Place) (d : Place) (v : Var) → AreKnown p (vs ++ v ∷ []) (before ++ d ∷ []) → v.width ≤ 64
+more : (p : Pipe) (vs : List Var) (before : List Place) (d : Place) (v : Var) → AreKnown p (vs ++ v ∷ []) (before ++ d ∷ []) → v.width ≤ widest
     → After p vs before → After p (vs ++ v ∷ []) (before ++ d ∷ [])
 more p vs before d v known h b = record { known = known; small = small_more vs v b.small h; params = λ x e. (stays_more vs (v ∷ []) x (b.params x e)).0 }
 

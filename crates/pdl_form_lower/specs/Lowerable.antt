@@ -1,25 +1,26 @@
 -- What lets a pipe be lowered: each variable that it uses or defines is one of its table, and the widths and sizes that its text tells are in bounds, as its limits and rules want.
-use Rattle.std.specs.Prelude.{◌≤◌, List, [], ◌∷◌, IsTrue}
+use Rattle.std.specs.Prelude.{◌≤◌, ◌<◌, List, [], ◌∷◌, IsTrue}
 use Rattle.pdl_semantics.specs.Tree.{Ident, Expr, Constant, Variable, Slice, Not, Binary, Cat, LessSigned, ZeroExtend, SignExtend, Choose, Stmt, Separator, CombRead, Bind, SpecCall, DelayedRead, Write, Reserve, Block, Release, If, Call, Verify, Update, SpecCheck, SpecBarrier, Stmts, Nil, Cons, Param, Pipe}
 use Rattle.pdl_semantics.specs.Flatten.{Var}
 use Rattle.pdl_rules.specs.Typed.{is_named}
 use Rattle.pdl_form_lower.specs.Sized.{AreSizedMems}
+use Rattle.pdl_word.specs.Words.{widest}
 
 -- the table has the variable
 abbrev pub IsKnown : List Var → Ident → Type 0
 IsKnown us x = IsTrue (is_named us x.name)
 
--- the table has the variables of an expression, and no literal, slice or extension in it is wider than 64 bits
+-- the table has the variables of an expression, and no literal, slice or extension in it is wider than the widest word
 abbrev pub IsLowerable : List Var → Expr → Type 0
-IsLowerable us (Constant l) = l.width ≤ 64
+IsLowerable us (Constant l) = l.width ≤ widest
 IsLowerable us (Variable x) = IsKnown us x
-IsLowerable us (Slice x high low) = IsKnown us x × (high.value ≤ 63) × (low.value ≤ 63)
+IsLowerable us (Slice x high low) = IsKnown us x × (high.value < widest) × (low.value < widest)
 IsLowerable us (Not a) = IsLowerable us a
 IsLowerable us (Binary op a b) = IsLowerable us a × IsLowerable us b
 IsLowerable us (Cat a b) = IsLowerable us a × IsLowerable us b
 IsLowerable us (LessSigned a b) = IsLowerable us a × IsLowerable us b
-IsLowerable us (ZeroExtend a n) = (n.value ≤ 64) × IsLowerable us a
-IsLowerable us (SignExtend a n) = (n.value ≤ 64) × IsLowerable us a
+IsLowerable us (ZeroExtend a n) = (n.value ≤ widest) × IsLowerable us a
+IsLowerable us (SignExtend a n) = (n.value ≤ widest) × IsLowerable us a
 IsLowerable us (Choose c a b) = IsLowerable us c × (IsLowerable us a × IsLowerable us b)
 
 -- the same of expressions
@@ -28,7 +29,7 @@ AreLowerable us [] = Unit {0}
 AreLowerable us (e ∷ es) = IsLowerable us e × AreLowerable us es
 
 abbrev mutual
-  -- the table has the variables of a statement, and no literal, slice or extension in it is wider than 64 bits
+  -- the table has the variables of a statement, and no literal, slice or extension in it is wider than the widest word
   pub IsLowerableStmt : List Var → Stmt → Type 0
   IsLowerableStmt us (Separator _) = Unit {0}
   IsLowerableStmt us (CombRead _ x from) = IsKnown us x × IsKnown us from.address
@@ -51,10 +52,10 @@ abbrev mutual
   AreLowerableStmts us Nil = Unit {0}
   AreLowerableStmts us (Cons s ss) = IsLowerableStmt us s × AreLowerableStmts us ss
 
--- the table has the parameters, and none of them is wider than 64 bits
+-- the table has the parameters, and none of them is wider than the widest word
 abbrev pub AreLowerableParams : List Var → List Param → Type 0
 AreLowerableParams us [] = Unit {0}
-AreLowerableParams us (a ∷ as') = IsKnown us a.name × (a.width.value ≤ 64) × AreLowerableParams us as'
+AreLowerableParams us (a ∷ as') = IsKnown us a.name × (a.width.value ≤ widest) × AreLowerableParams us as'
 
 -- a pipe can be lowered with this table of its variables
 pub record IsLowerablePipe (us : List Var) (p : Pipe) : Type 0 where

@@ -3,6 +3,7 @@ use Rattle.std.specs.Prelude.{◌≡◌, ℕ, zero, suc, ◌≤◌, List, [], �
 use Rattle.pdl_semantics.specs.Flatten.{Var, var_width}
 use Rattle.pdl_rules_widths.specs.Variables.{number_among}
 use Rattle.pdl_form_lower.specs.declared.vars.NumberedVariable.{NumberedVariable}
+use Rattle.pdl_word.specs.Words.{widest}
 
 -- the variables of a pipe, and those that a walk has defined so far
 pub record Scope : Type 0 where
@@ -39,7 +40,7 @@ with_number [] k n = []
 with_number (o ∷ os) zero n = number_or o n ∷ os
 with_number (o ∷ os) (suc k) n = o ∷ with_number os k n
 
--- each variable of the table has the number of its name, and no width is over 64
+-- each variable of the table has the number of its name, and no width is over widest
 pub record AreNumbered (us : List Var) (ns : List (Option ℕ)) (vs : List Var) : Type 0 where
   pub numbers : (x : List ℕ) (k : ℕ) → number_among us x ≡ Some k → slice_get ns k ≡ Some (number_among vs x)
-  pub small : (x : List ℕ) → var_width vs x ≤ 64
+  pub small : (x : List ℕ) → var_width vs x ≤ widest

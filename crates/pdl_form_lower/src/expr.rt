@@ -1,17 +1,19 @@
 // Expressions over numbered variables.
-ghost use Rattle.std.specs.Prelude.{◌≡◌, ℕ, ◌+◌, ◌-◌, ◌≤◌, if◌then◌else◌, nat_lt, unwrap_or, map, IfOk, IsTrue, Ok};
+ghost use Rattle.std.specs.Prelude.{◌≡◌, ℕ, ◌+◌, ◌-◌, ◌≤◌, ◌<◌, if◌then◌else◌, nat_lt, unwrap_or, map, IfOk, IsTrue, Ok};
 ghost use Rattle.pdl_semantics.specs.Flat as flat;
 ghost use Rattle.pdl_semantics.specs.Flatten as spec;
 ghost use Rattle.pdl_syntax_tree.specs.View.{expr_view as tree_view, exprs_view as trees_view, op_view};
 ghost use Rattle.pdl_rules.specs.Typed.{is_named};
 ghost use Rattle.pdl_form.specs.View.{expr_view};
 ghost use Rattle.pdl_form_lower.specs.Lowerable.{IsLowerable, AreLowerable};
+ghost use Rattle.pdl_word.specs.Words.{widest};
 
 use crate::both::both;
 use crate::vars::Vars;
 use pdl_form::FlatExpr;
 use pdl_kit::{Boxed, Name, NoMemory, Seq};
 use pdl_syntax_tree::{BinaryOp, Expr as Tree, Literal};
+use pdl_word::WIDEST;
 use std::alloc::Global;
 
 /// An expression with the width of its value in bits.
@@ -22,7 +24,7 @@ pub struct Wide {
 }
 
 fn constant(l: &Literal) -> Wide
-    requires { l.now.width ≤ 64 }
+    requires { l.now.width ≤ widest }
     ensures form { expr_view result.e ≡ flat.Constant l.now.width (unwrap_or l.now.value 0) }
     ensures width { result.width ≡ l.now.width }
 {
@@ -41,7 +43,7 @@ fn variable(vars: &Vars<'_>, name: &Name) -> Wide
     requires { IsTrue (is_named vars.now.table name.now) }
     ensures form { expr_view result.e ≡ flat.Variable (spec.var_of vars.now.vars name.now) }
     ensures width { result.width ≡ spec.var_width vars.now.vars name.now }
-    ensures small { result.width ≤ 64 }
+    ensures small { result.width ≤ widest }
 {
     Wide {
         e: FlatExpr::Variable(vars.number(name)),
@@ -51,20 +53,20 @@ fn variable(vars: &Vars<'_>, name: &Name) -> Wide
 
 // The width of the bits from high down to low, 1 where there are none.
 fn slice_width(high: u8, low: u8) -> u8
-    requires { high ≤ 63 }
+    requires { high < widest }
     ensures value { result ≡ (if nat_lt high low then 1 else high + 1 - low) }
-    ensures small { result ≤ 64 }
+    ensures small { result ≤ widest }
 {
     if high < low { 1 } else { high + 1 - low }
 }
 
 fn slice(vars: &Vars<'_>, name: &Name, high: u64, low: u64) -> Wide
     requires known { IsTrue (is_named vars.now.table name.now) }
-    requires high { high ≤ 63 }
-    requires low { low ≤ 63 }
+    requires high { high < widest }
+    requires low { low < widest }
     ensures form { expr_view result.e ≡ flat.Slice (spec.var_of vars.now.vars name.now) high low }
     ensures width { result.width ≡ (if nat_lt high low then 1 else high + 1 - low) }
-    ensures small { result.width ≤ 64 }
+    ensures small { result.width ≤ widest }
 {
     let high = high as u8;
     let low = low as u8;
@@ -101,7 +103,7 @@ fn not(alloc: Global, a: Result<LoweredOperand, NoMemory>) -> Result<Wide, NoMem
     ensures form { (x : flat.Expr) (w : ℕ) → IfOk a (λ a. expr_view a.e ≡ x) →
         IfOk a (λ a. a.width ≡ w) → IfOk result (λ r. expr_view r.e ≡ flat.Not w x) }
     ensures width { (w : ℕ) → IfOk a (λ a. a.width ≡ w) → IfOk result (λ r. r.width ≡ w) }
-    ensures small { IfOk a (λ a. a.width ≤ 64) → IfOk result (λ r. r.width ≤ 64) }
+    ensures small { IfOk a (λ a. a.width ≤ widest) → IfOk result (λ r. r.width ≤ widest) }
 {
     let LoweredOperand { e, width } = a?;
     Ok(Wide {
@@ -112,9 +114,9 @@ fn not(alloc: Global, a: Result<LoweredOperand, NoMemory>) -> Result<Wide, NoMem
 
 // The width of an operator's value, by its operands' width.
 fn op_width(op: BinaryOp, width: u8) -> u8
-    requires { width ≤ 64 }
+    requires { width ≤ widest }
     ensures value { result ≡ spec.op_width (op_view op) width }
-    ensures small { result ≤ 64 }
+    ensures small { result ≤ widest }
 {
     match op {
         BinaryOp::Equal | BinaryOp::Differ | BinaryOp::Less => 1,
@@ -130,13 +132,13 @@ fn binary(
     a: Result<LoweredOperand, NoMemory>,
     b: Result<LoweredOperand, NoMemory>,
 ) -> Result<Wide, NoMemory>
-    requires { IfOk a (λ a. a.width ≤ 64) }
+    requires { IfOk a (λ a. a.width ≤ widest) }
     ensures form { (x y : flat.Expr) (w : ℕ) → IfOk a (λ a. expr_view a.e ≡ x) →
         IfOk b (λ b. expr_view b.e ≡ y) → IfOk a (λ a. a.width ≡ w) →
         IfOk result (λ r. expr_view r.e ≡ flat.Binary (op_view op) w x y) }
     ensures width { (w : ℕ) → IfOk a (λ a. a.width ≡ w) →
         IfOk result (λ r. r.width ≡ spec.op_width (op_view op) w) }
-    ensures small { IfOk result (λ r. r.width ≤ 64) }
+    ensures small { IfOk result (λ r. r.width ≤ widest) }
 {
     let (a, b) = both(a, b)?;
     let width = a.width;
@@ -153,13 +155,17 @@ fn binary(
 
 // The width of two values side by side, 1 where they are too wide together.
 fn cat_width(above: u8, below: u8) -> u8
-    requires above { above ≤ 64 }
-    requires below { below ≤ 64 }
-    ensures value { result ≡ (if nat_lt 64 (above + below) then 1 else above + below) }
-    ensures small { result ≤ 64 }
+    requires above { above ≤ widest }
+    requires below { below ≤ widest }
+    ensures value { result ≡ (if nat_lt widest (above + below) then 1 else above + below) }
+    ensures small { result ≤ widest }
 {
-    let both = above + below;
-    if both > 64 { 1 } else { both }
+    // Both together may not fit a `u8`.
+    if above > WIDEST - below {
+        1
+    } else {
+        above + below
+    }
 }
 
 fn cat(
@@ -167,14 +173,14 @@ fn cat(
     a: Result<LoweredOperand, NoMemory>,
     b: Result<LoweredOperand, NoMemory>,
 ) -> Result<Wide, NoMemory>
-    requires a_small { IfOk a (λ a. a.width ≤ 64) }
-    requires b_small { IfOk b (λ b. b.width ≤ 64) }
+    requires a_small { IfOk a (λ a. a.width ≤ widest) }
+    requires b_small { IfOk b (λ b. b.width ≤ widest) }
     ensures form { (x y : flat.Expr) (w : ℕ) → IfOk a (λ a. expr_view a.e ≡ x) →
         IfOk b (λ b. expr_view b.e ≡ y) → IfOk b (λ b. b.width ≡ w) →
         IfOk result (λ r. expr_view r.e ≡ flat.Cat x w y) }
     ensures width { (v w : ℕ) → IfOk a (λ a. a.width ≡ v) → IfOk b (λ b. b.width ≡ w) →
-        IfOk result (λ r. r.width ≡ (if nat_lt 64 (v + w) then 1 else v + w)) }
-    ensures small { IfOk result (λ r. r.width ≤ 64) }
+        IfOk result (λ r. r.width ≡ (if nat_lt widest (v + w) then 1 else v + w)) }
+    ensures small { IfOk result (λ r. r.width ≤ widest) }
 {
     let (a, b) = both(a, b)?;
     let width = b.width;
@@ -215,7 +221,7 @@ fn zero_extend(
     a: Result<LoweredOperand, NoMemory>,
     wide: u64,
 ) -> Result<Wide, NoMemory>
-    requires { wide ≤ 64 }
+    requires { wide ≤ widest }
     ensures form { (x : flat.Expr) → IfOk a (λ a. expr_view a.e ≡ x) →
         IfOk result (λ r. expr_view r.e ≡ flat.ZeroExtend wide x) }
     ensures width { IfOk result (λ r. r.width ≡ wide) }
@@ -233,7 +239,7 @@ fn sign_extend(
     a: Result<LoweredOperand, NoMemory>,
     wide: u64,
 ) -> Result<Wide, NoMemory>
-    requires { wide ≤ 64 }
+    requires { wide ≤ widest }
     ensures form { (x : flat.Expr) (w : ℕ) → IfOk a (λ a. expr_view a.e ≡ x) →
         IfOk a (λ a. a.width ≡ w) → IfOk result (λ r. expr_view r.e ≡ flat.SignExtend w wide x) }
     ensures width { IfOk result (λ r. r.width ≡ wide) }
@@ -257,7 +263,7 @@ fn choose(
         IfOk a (λ a. expr_view a.e ≡ x) → IfOk b (λ b. expr_view b.e ≡ y) →
         IfOk result (λ r. expr_view r.e ≡ flat.Choose z x y) }
     ensures width { (w : ℕ) → IfOk a (λ a. a.width ≡ w) → IfOk result (λ r. r.width ≡ w) }
-    ensures small { IfOk a (λ a. a.width ≤ 64) → IfOk result (λ r. r.width ≤ 64) }
+    ensures small { IfOk a (λ a. a.width ≤ widest) → IfOk result (λ r. r.width ≤ widest) }
 {
     let (c, arms) = both(c, both(a, b))?;
     let (a, b) = arms;
@@ -280,7 +286,7 @@ fn flat_operand(alloc: Global, vars: &Vars<'_>, e: &Tree) -> Result<LoweredOpera
     ensures form { IfOk result (λ r.
         expr_view r.e ≡ spec.flat_expr vars.now.vars (tree_view e.now)) }
     ensures width { IfOk result (λ r. r.width ≡ spec.width_of vars.now.vars (tree_view e.now)) }
-    ensures small { IfOk result (λ r. r.width ≤ 64) }
+    ensures small { IfOk result (λ r. r.width ≤ widest) }
 {
     boxed(alloc, flat_expr(alloc, vars, e))
 }
@@ -294,7 +300,7 @@ fn flat_not(alloc: Global, vars: &Vars<'_>, a: &Tree) -> Result<Wide, NoMemory>
         ≡ flat.Not (spec.width_of vars.now.vars (tree_view a.now))
         (spec.flat_expr vars.now.vars (tree_view a.now))) }
     ensures width { IfOk result (λ r. r.width ≡ spec.width_of vars.now.vars (tree_view a.now)) }
-    ensures small { IfOk result (λ r. r.width ≤ 64) }
+    ensures small { IfOk result (λ r. r.width ≤ widest) }
 {
     not(alloc, flat_operand(alloc, vars, a))
 }
@@ -304,11 +310,11 @@ fn flat_not(alloc: Global, vars: &Vars<'_>, a: &Tree) -> Result<Wide, NoMemory>
 #[inline(never)]
 fn flat_zero_extend(alloc: Global, vars: &Vars<'_>, wide: u64, a: &Tree) -> Result<Wide, NoMemory>
     requires a { IsLowerable vars.now.table (tree_view a.now) }
-    requires wide { wide ≤ 64 }
+    requires wide { wide ≤ widest }
     ensures form { IfOk result (λ r. expr_view r.e
         ≡ flat.ZeroExtend wide (spec.flat_expr vars.now.vars (tree_view a.now))) }
     ensures width { IfOk result (λ r. r.width ≡ wide) }
-    ensures small { IfOk result (λ r. r.width ≤ 64) }
+    ensures small { IfOk result (λ r. r.width ≤ widest) }
 {
     zero_extend(alloc, flat_operand(alloc, vars, a), wide)
 }
@@ -318,12 +324,12 @@ fn flat_zero_extend(alloc: Global, vars: &Vars<'_>, wide: u64, a: &Tree) -> Resu
 #[inline(never)]
 fn flat_sign_extend(alloc: Global, vars: &Vars<'_>, wide: u64, a: &Tree) -> Result<Wide, NoMemory>
     requires a { IsLowerable vars.now.table (tree_view a.now) }
-    requires wide { wide ≤ 64 }
+    requires wide { wide ≤ widest }
     ensures form { IfOk result (λ r. expr_view r.e
         ≡ flat.SignExtend (spec.width_of vars.now.vars (tree_view a.now)) wide
         (spec.flat_expr vars.now.vars (tree_view a.now))) }
     ensures width { IfOk result (λ r. r.width ≡ wide) }
-    ensures small { IfOk result (λ r. r.width ≤ 64) }
+    ensures small { IfOk result (λ r. r.width ≤ widest) }
 {
     sign_extend(alloc, flat_operand(alloc, vars, a), wide)
 }
@@ -339,14 +345,14 @@ fn binary_with(
     b: &Tree,
 ) -> Result<Wide, NoMemory>
     requires b { IsLowerable vars.now.table (tree_view b.now) }
-    requires a_small { IfOk a (λ a. a.width ≤ 64) }
+    requires a_small { IfOk a (λ a. a.width ≤ widest) }
     ensures form { (x : flat.Expr) (w : ℕ) → IfOk a (λ a. expr_view a.e ≡ x) →
         IfOk a (λ a. a.width ≡ w) → IfOk result (λ r.
         expr_view r.e
         ≡ flat.Binary (op_view op) w x (spec.flat_expr vars.now.vars (tree_view b.now))) }
     ensures width { (w : ℕ) → IfOk a (λ a. a.width ≡ w) →
         IfOk result (λ r. r.width ≡ spec.op_width (op_view op) w) }
-    ensures small { IfOk result (λ r. r.width ≤ 64) }
+    ensures small { IfOk result (λ r. r.width ≤ widest) }
 {
     let b = flat_operand(alloc, vars, b);
     binary(alloc, op, a, b)
@@ -362,14 +368,14 @@ fn cat_with(
     b: &Tree,
 ) -> Result<Wide, NoMemory>
     requires b { IsLowerable vars.now.table (tree_view b.now) }
-    requires a_small { IfOk a (λ a. a.width ≤ 64) }
+    requires a_small { IfOk a (λ a. a.width ≤ widest) }
     ensures form { (x : flat.Expr) → IfOk a (λ a. expr_view a.e ≡ x) → IfOk result (λ r.
         expr_view r.e ≡ flat.Cat x (spec.width_of vars.now.vars (tree_view b.now))
         (spec.flat_expr vars.now.vars (tree_view b.now))) }
     ensures width { (v : ℕ) → IfOk a (λ a. a.width ≡ v) → IfOk result (λ r. r.width ≡
-        (if nat_lt 64 (v + spec.width_of vars.now.vars (tree_view b.now)) then 1
+        (if nat_lt widest (v + spec.width_of vars.now.vars (tree_view b.now)) then 1
         else v + spec.width_of vars.now.vars (tree_view b.now))) }
-    ensures small { IfOk result (λ r. r.width ≤ 64) }
+    ensures small { IfOk result (λ r. r.width ≤ widest) }
 {
     let b = flat_operand(alloc, vars, b);
     cat(alloc, a, b)
@@ -389,7 +395,7 @@ fn less_with(
         IfOk a (λ a. a.width ≡ w) → IfOk result (λ r.
         expr_view r.e ≡ flat.LessSigned w x (spec.flat_expr vars.now.vars (tree_view b.now))) }
     ensures width { IfOk result (λ r. r.width ≡ 1) }
-    ensures small { IfOk result (λ r. r.width ≤ 64) }
+    ensures small { IfOk result (λ r. r.width ≤ widest) }
 {
     let b = flat_operand(alloc, vars, b);
     less_signed(alloc, a, b)
@@ -410,7 +416,7 @@ fn choice_with(
         IfOk a (λ a. expr_view a.e ≡ x) → IfOk result (λ r.
         expr_view r.e ≡ flat.Choose z x (spec.flat_expr vars.now.vars (tree_view b.now))) }
     ensures width { (w : ℕ) → IfOk a (λ a. a.width ≡ w) → IfOk result (λ r. r.width ≡ w) }
-    ensures small { IfOk a (λ a. a.width ≤ 64) → IfOk result (λ r. r.width ≤ 64) }
+    ensures small { IfOk a (λ a. a.width ≤ widest) → IfOk result (λ r. r.width ≤ widest) }
 {
     let b = flat_operand(alloc, vars, b);
     choose(alloc, c, a, b)
@@ -424,7 +430,7 @@ pub fn flat_expr(alloc: Global, vars: &Vars<'_>, e: &Tree) -> Result<Wide, NoMem
     ensures form { IfOk result (λ r.
         expr_view r.e ≡ spec.flat_expr vars.now.vars (tree_view e.now)) }
     ensures width { IfOk result (λ r. r.width ≡ spec.width_of vars.now.vars (tree_view e.now)) }
-    ensures small { IfOk result (λ r. r.width ≤ 64) }
+    ensures small { IfOk result (λ r. r.width ≤ widest) }
 {
     match e {
         Tree::Constant(l) => Ok(constant(l)),

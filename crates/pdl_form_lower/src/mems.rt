@@ -3,6 +3,7 @@ ghost use Rattle.std.specs.Prelude.{◌≡◌, ◌≤◌, map};
 ghost use Rattle.pdl_semantics.specs.Flatten as spec;
 ghost use Rattle.pdl_syntax_tree.specs.View.{mem_view};
 ghost use Rattle.pdl_form_lower.specs.Sized.{AreSizedMems};
+ghost use Rattle.pdl_word.specs.Words.{widest};
 
 use pdl_kit::Name;
 use pdl_syntax_tree::Mem;
@@ -25,7 +26,7 @@ pub fn mem_of(mems: &[Mem], name: &Name) -> usize
 pub fn mem_width(mems: &[Mem], name: &Name) -> u8
     requires { AreSizedMems (map mem_view mems.now) }
     ensures value { result ≡ spec.mem_width (map mem_view mems.now) name.now }
-    ensures small { result ≤ 64 }
+    ensures small { result ≤ widest }
 {
     for mem in mems {
         if mem.name.name == *name {

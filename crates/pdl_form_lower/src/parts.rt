@@ -12,6 +12,7 @@ use pdl_form::{FlatMem, Lock};
 use pdl_kit::NoMemory;
 use pdl_rules_widths::Variables;
 use pdl_syntax_tree::{Literal, LockDecl, LockKind, Mem as Tree, Param};
+use pdl_word::Word;
 use std::alloc::Global;
 
 /// The parameters as variables of this table.
@@ -84,7 +85,7 @@ pub fn memories(alloc: Global, mems: &[Tree]) -> Result<Vec<FlatMem>, NoMemory>
 }
 
 /// The start arguments.
-pub fn start(alloc: Global, args: &[Literal]) -> Result<Vec<u64>, NoMemory>
+pub fn start(alloc: Global, args: &[Literal]) -> Result<Vec<Word>, NoMemory>
     ensures { IfOk result (λ vs. vs.items ≡ spec.start_of (map tree.literal_view args.now)) }
 {
     let mut start = Vec::new(alloc);
@@ -94,7 +95,7 @@ pub fn start(alloc: Global, args: &[Literal]) -> Result<Vec<u64>, NoMemory>
     Ok(start)
 }
 
-fn value_of(arg: &Literal) -> u64
+fn value_of(arg: &Literal) -> Word
     ensures { result ≡ unwrap_or arg.now.value 0 }
 {
     arg.value.unwrap_or(0)

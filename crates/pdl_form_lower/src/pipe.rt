@@ -17,6 +17,7 @@ use pdl_form::{FlatMem, FlatPipe, FlatStage, NO_BRANCHES, Next};
 use pdl_kit::{NoMemory, Seq};
 use pdl_rules_widths::Variables;
 use pdl_syntax_tree::Pipe;
+use pdl_word::Word;
 use std::alloc::Global;
 
 // The walk over the whole body.
@@ -83,7 +84,7 @@ fn walk_body(alloc: Global, walk: &mut Walk<'_>, pipe: &Pipe) -> Result<(), NoMe
 struct FormParts {
     widths: Vec<u8>,
     mems: Vec<FlatMem>,
-    start: Vec<u64>,
+    start: Vec<Word>,
 }
 
 // The widths of these variables, and a pipe's memories and start arguments.

@@ -8,6 +8,7 @@ ghost use Rattle.pdl_form.specs.View.{guards_view, stmts_view, act_view, expr_vi
 ghost use Rattle.pdl_form_lower.specs.Sized.{AreSizedMems};
 ghost use Rattle.pdl_form_lower.specs.Lowerable.{IsLowerable, IsLowerableStmt};
 ghost use Rattle.pdl_form_lower.specs.Walking.{place_of, is_plain, is_act};
+ghost use Rattle.pdl_word.specs.Words.{widest};
 
 use crate::advised::is_advised;
 use crate::append::append;
@@ -79,7 +80,7 @@ fn bind_to(
     advised: bool,
 ) -> Result<(), NoMemory>
     requires known { IsTrue (is_named walk.old.vars.table x.now) }
-    requires small { width ≤ 64 }
+    requires small { width ≤ widest }
     ensures stmts { OnOk result (stmts_view walk.new.stmts.items
         ≡ stmts_view walk.old.stmts.items ++ spec.at_position (guards_view guards.now)
         (place_of walk.old) (act_view op)) }

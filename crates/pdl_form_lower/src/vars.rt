@@ -5,6 +5,7 @@ ghost use Rattle.pdl_rules.specs.Typed.{is_named};
 ghost use Rattle.pdl_rules_widths.specs.Variables.{number_among};
 ghost use Rattle.pdl_form_lower.specs.Variables.{with_number};
 ghost use Rattle.pdl_form_lower.specs.declared.vars.NumberedVariable.{NumberedVariable};
+ghost use Rattle.pdl_word.specs.Words.{widest};
 
 use crate::append::append;
 use pdl_kit::{Name, NoMemory};
@@ -62,7 +63,7 @@ impl<'v> Vars<'v> {
     /// Adds a variable of the table.
     pub fn define(&mut self, name: &Name, width: u8, advised: bool) -> Result<(), NoMemory>
         requires known { IsTrue (is_named self.old.table name.now) }
-        requires small { width ≤ 64 }
+        requires small { width ≤ widest }
         ensures vars { OnOk result (self.new.vars
             ≡ self.old.vars ++ record {
               name = name.now;
@@ -87,7 +88,7 @@ impl<'v> Vars<'v> {
     // Adds a variable of the table, or one with the empty name, which no variable of a source has.
     fn add(&mut self, name: &Name, width: u8, advised: bool) -> Result<(), NoMemory>
         requires known { IsTrue (bytes_eq name.now [] || is_named self.old.table name.now) }
-        requires small { width ≤ 64 }
+        requires small { width ≤ widest }
         ensures vars { OnOk result (self.new.vars
             ≡ self.old.vars ++ record {
               name = name.now;
@@ -125,7 +126,7 @@ impl<'v> Vars<'v> {
     pub fn width(&self, name: &Name) -> u8
         requires { IsTrue (is_named self.now.table name.now) }
         ensures value { result ≡ var_width self.now.vars name.now }
-        ensures small { result ≤ 64 }
+        ensures small { result ≤ widest }
     {
         match self.find(name) {
             Some(number) => width_at(self.vars.as_slice(), number),

@@ -25,6 +25,7 @@ use Rattle.pdl_form_types.proofs.Values.{IsWide}
 use Rattle.pdl_form_types.proofs.VariableNames.{rest_named, number_step}
 use Rattle.pdl_rules.proofs.KnownVariables.{no_params}
 use Rattle.pdl_semantics.proofs.Facts.{lock_declared}
+use Rattle.pdl_semantics.specs.Words.{widest}
 
 -- SIZES
 
@@ -37,12 +38,12 @@ typed_mem : (m : Mem)
     → IsTypedMem (record { width = m.width.value; depth = m.depth.value; kind = m.kind; lock = flat_lock m.lock })
 typed_mem m e =
     let both = shape m e in
-    let width = and_parts (nat_le 1 m.width.value) (nat_le m.width.value 64) both.0 in
+    let width = and_parts (nat_le 1 m.width.value) (nat_le m.width.value widest) both.0 in
     let bits = of_each has_bits depths m.depth.value refl both.1 in
     let few = and_parts (nat_le 1 (address_bits m.depth.value)) (nat_le (address_bits m.depth.value) 16) bits in
     record {
       low = leb-true 1 _ width.0;
-      high = leb-true _ 64 width.1;
+      high = leb-true _ widest width.1;
       bits = address_bits m.depth.value;
       some = leb-true 1 _ few.0;
       few = leb-true _ 16 few.1;
@@ -103,7 +104,7 @@ wide_step : (b : Bool) (w u : ℕ) → IsWide w → (b ≡ false → IsWide u) �
 wide_step true w u h k = h
 wide_step false w u h k = k refl
 
--- the words of a memory have 1 to 64 bits, where the memories are typed
+-- the words of a memory have 1 to widest bits, where the memories are typed
 pub wide_mem : (ms : List Mem) (m : List ℕ) → AreTypedMems (mems_of ms) → IsTrue (is_memory ms m) → IsWide (mem_width ms m)
 wide_mem [] m t h = absurd (false≢true h)
 wide_mem (x ∷ ms) m t h =

@@ -2,19 +2,20 @@
 use Rattle.std.proofs.Common.{◌≡◌, refl, sym, ap, ap₂, ◌∙◌, subst, ℕ, zero, suc, ◌+◌, ◌-◌, ◌^◌, ◌<◌, ◌≤◌, if◌then◌else◌, nat_lt, List, [], ◌∷◌, map, slice_index, length, Option, Some, None, unwrap_or, arith}
 use Rattle.pdl_semantics.specs.Tree.{BinaryOp, Add, Sub, Mul, And, Or, Xor, Equal, Differ, Less, ShiftLeft, ShiftRight, Expr, Constant, Variable, Slice, Not, Binary, Cat, LessSigned, ZeroExtend, SignExtend, Choose, Literal, Param}
 use Rattle.pdl_semantics.specs.Flat as flat
-use Rattle.pdl_semantics.specs.Flatten.{Var, widest, op_width, width_of, flat_expr, flat_exprs, start_of}
+use Rattle.pdl_semantics.specs.Flatten.{Var, op_width, width_of, flat_expr, flat_exprs, start_of}
 use Rattle.pdl_rules.specs.Typed.{Holds, AreStarts}
 use Rattle.pdl_rules.specs.Typed as tree
 use Rattle.pdl_form_types.specs.Exprs.{width_in, IsTyped}
 use Rattle.pdl_form_types.specs.Stmts.{AreArguments, AreWidths, AreBelow}
 use Rattle.pdl_form_types.proofs.VariableNames.{Found}
+use Rattle.pdl_semantics.specs.Words.{widest}
 
 -- WIDTHS
 
 slice_width : (high low : ℕ) → low ≤ high → (if nat_lt high low then 1 else high + 1 - low) ≡ high + 1 - low
 slice_width high low h = grind arith
 
-cat_width : (m n : ℕ) → m + n ≤ 64 → (if nat_lt widest (m + n) then 1 else m + n) ≡ m + n
+cat_width : (m n : ℕ) → m + n ≤ widest → (if nat_lt widest (m + n) then 1 else m + n) ≡ m + n
 cat_width m n h = grind arith
 
 -- the value of a literal, below the bound of its width
@@ -56,7 +57,7 @@ alike us vs ws f (Cat a b) t =
     let h = alike us vs ws f a t.0 in
     let k = alike us vs ws f b t.1 in
     record {
-      typed = (h.typed, k.typed, told b k, subst (λ n. n ≤ 64) (sym (ap₂ (λ m n. m + n) h.width k.same)) t.2);
+      typed = (h.typed, k.typed, told b k, subst (λ n. n ≤ widest) (sym (ap₂ (λ m n. m + n) h.width k.same)) t.2);
       width = ap₂ (λ m n. m + n) h.width k.same ∙ sym (cat_width (width_of us a) (width_of us b) t.2);
       same = ap₂ (λ m n. if nat_lt widest (m + n) then 1 else m + n) h.same k.same;
     }
@@ -106,14 +107,14 @@ long_start [] (l ∷ ls) t = absurd t
 long_start (a ∷ ps) [] t = absurd t
 long_start (a ∷ ps) (l ∷ ls) t = let e = long_start ps ls t.2 in omega arith
 
--- 1 TO 64 BITS
+-- 1 TO WIDEST BITS
 
--- a width is from 1 to 64 bits
+-- a width is from 1 to widest bits
 pub record IsWide (w : ℕ) : Type 0 where
   pub low : 1 ≤ w
-  pub high : w ≤ 64
+  pub high : w ≤ widest
 
--- each of a list of allowed widths is from 1 to 64 bits
+-- each of a list of allowed widths is from 1 to widest bits
 pub wide_at : (ws : List ℕ) (x : ℕ) → AreWidths ws → x < length ws → IsWide (slice_index ws x)
 wide_at [] x a h = absurd (let z : x < 0 = h in omega arith)
 wide_at (w ∷ ws) zero a h = record { low = a.0; high = a.1 }
@@ -132,7 +133,7 @@ wide_op Xor w h = h
 wide_op ShiftLeft w h = h
 wide_op ShiftRight w h = h
 
--- a typed expression has 1 to 64 bits, where the variables have
+-- a typed expression has 1 to widest bits, where the variables have
 pub wide_expr : (ws : List ℕ) → AreWidths ws → (e : flat.Expr) → IsTyped ws e → IsWide (width_in ws e)
 wide_expr ws a (flat.Constant width value) t = record { low = t.0; high = t.1 }
 wide_expr ws a (flat.Variable x) t = wide_at ws x a t

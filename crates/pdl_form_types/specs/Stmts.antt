@@ -5,6 +5,7 @@ use Rattle.pdl_semantics.specs.Stages.{mem_at}
 use Rattle.pdl_form.specs.Form.{Form}
 use Rattle.pdl_form_types.specs.Exprs.{width_in, IsTyped}
 use Rattle.pdl_form_types.specs.Apart.{IsApart}
+use Rattle.pdl_semantics.specs.Words.{widest}
 
 -- the widths of the parameters
 abbrev pub param_widths : Form → List ℕ
@@ -68,10 +69,10 @@ abbrev pub AreTypedStmts : Form → List Stmt → Type 0
 AreTypedStmts f [] = ⊤
 AreTypedStmts f (x ∷ xs) = IsTypedStmt f x × AreTypedStmts f xs
 
--- variables of 1 to 64 bits
+-- variables of 1 to widest bits
 abbrev pub AreWidths : List ℕ → Type 0
 AreWidths [] = ⊤
-AreWidths (w ∷ ws) = (1 ≤ w) × (w ≤ 64) × AreWidths ws
+AreWidths (w ∷ ws) = (1 ≤ w) × (w ≤ widest) × AreWidths ws
 
 -- values below 2 to the power of these widths, one for each
 abbrev pub AreBelow : List ℕ → List ℕ → Type 0
@@ -79,10 +80,10 @@ AreBelow [] [] = ⊤
 AreBelow (w ∷ ws) (v ∷ vs) = (v < 2 ^ w) × AreBelow ws vs
 AreBelow _ _ = ⊥
 
--- words of 1 to 64 bits, and a power of two of them, from 2 to 65,536
+-- words of 1 to widest bits, and a power of two of them, from 2 to 65,536
 pub record IsTypedMem (m : Mem) : Type 0 where
   pub low : 1 ≤ m.width
-  pub high : m.width ≤ 64
+  pub high : m.width ≤ widest
   pub bits : ℕ
   pub some : 1 ≤ bits
   pub few : bits ≤ 16

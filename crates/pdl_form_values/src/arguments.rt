@@ -1,8 +1,10 @@
 // The values with which a thread begins.
 ghost use Rattle.std.specs.Prelude.{◌≡◌, ◌≤◌, ◌-◌, ◌++◌, length, replicate};
 
+use pdl_word::Word;
+
 /// The values of arguments come first, and zeros after them.
-pub fn fill(values: &mut [u64], args: &[u64])
+pub fn fill(values: &mut [Word], args: &[Word])
     requires few { length args.now ≤ length values.old }
     ensures values { values.new ≡ args.now ++ replicate (length values.old - length args.now) 0 }
 {

@@ -5,9 +5,10 @@ ghost use Rattle.pdl_form.specs.View.{guards_view};
 
 use crate::value::variable;
 use pdl_form::FlatGuard;
+use pdl_word::Word;
 
 // Whether a branch is taken.
-fn is_taken(guard: FlatGuard, values: &[u64]) -> bool
+fn is_taken(guard: FlatGuard, values: &[Word]) -> bool
     ensures { result ≡ takes_branch guard.first (slice_index values.now guard.var) }
 {
     if guard.first {
@@ -18,7 +19,7 @@ fn is_taken(guard: FlatGuard, values: &[u64]) -> bool
 }
 
 /// Whether each of these branches is taken where the variables have these values.
-pub fn are_taken(guards: &[FlatGuard], values: &[u64]) -> bool
+pub fn are_taken(guards: &[FlatGuard], values: &[Word]) -> bool
     ensures { result ≡ all_hold (guards_view guards.now) values.now }
 {
     for guard in guards {

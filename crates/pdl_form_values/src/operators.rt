@@ -2,14 +2,16 @@
 ghost use Rattle.std.specs.Prelude.{◌≡◌, ◌≤◌, ◌<◌, ◌^◌};
 ghost use Rattle.pdl_semantics.specs.Flat.{operator_value};
 ghost use Rattle.pdl_syntax_tree.specs.View.{op_view};
+ghost use Rattle.pdl_word.specs.Words.{widest};
 
 use pdl_syntax_tree::BinaryOp;
+use pdl_word::Word;
 
 /// An operator on two words of a width.
 #[tactic(auto, unfolding(pdl_word::specs::Words::and, pdl_word::specs::Words::or, pdl_word::specs::Words::xor))]
-pub fn apply(op: BinaryOp, width: u8, a: u64, b: u64) -> u64
+pub fn apply(op: BinaryOp, width: u8, a: Word, b: Word) -> Word
     requires low { 1 ≤ width }
-    requires high { width ≤ 64 }
+    requires high { width ≤ widest }
     requires a_fits { a < 2 ^ width }
     requires b_fits { b < 2 ^ width }
     ensures { result ≡ operator_value (op_view op) width a b }

@@ -6,9 +6,10 @@ ghost use Rattle.pdl_form_values.specs.Safe.{IsSafe, AreSafe};
 
 use crate::operators::apply;
 use pdl_form::FlatExpr;
+use pdl_word::Word;
 
 /// The value of the variable of a number, 0 where there is none.
-pub fn variable(values: &[u64], x: usize) -> u64
+pub fn variable(values: &[Word], x: usize) -> Word
     ensures { result ≡ slice_index values.now x }
 {
     match values.get(x) {
@@ -18,7 +19,7 @@ pub fn variable(values: &[u64], x: usize) -> u64
 }
 
 /// The value of an expression where the variables have these values, which are of the widths that its operators want.
-pub fn value_of(e: &FlatExpr, values: &[u64]) -> u64
+pub fn value_of(e: &FlatExpr, values: &[Word]) -> Word
     requires { IsSafe (expr_view e.now) values.now }
     ensures { result ≡ flat.value_of (expr_view e.now) values.now }
 {
@@ -56,7 +57,7 @@ pub fn value_of(e: &FlatExpr, values: &[u64]) -> u64
 }
 
 /// Puts the values of arguments into a vector in place of what it held, without taking memory.
-pub fn values_of(args: &[FlatExpr], values: &[u64], given: &mut Vec<u64>)
+pub fn values_of(args: &[FlatExpr], values: &[Word], given: &mut Vec<Word>)
     requires safe { AreSafe (exprs_view args.now) values.now }
     requires room { length args.now ≤ vec_capacity given.old }
     ensures values { given.new.items ≡ flat.values_of (exprs_view args.now) values.now }

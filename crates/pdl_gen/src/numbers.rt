@@ -3,6 +3,7 @@ ghost use Rattle.std.specs.Prelude.{◌≡◌, ◌<◌, ◌≤◌, ◌^◌, ◌/
 ghost use Rattle.pdl_gen.specs.Generated as spec;
 
 use pdl_kit::NoMemory;
+use pdl_word::Word;
 use std::alloc::Global;
 
 /// The number that comes after one.
@@ -23,14 +24,14 @@ pub fn byte_of(x: u64) -> u64
 
 /// The words that the memory of the generated run has at the start, by their addresses: 16 words of 8 bits.
 #[tactic(auto, unfolding(crate::specs::Generated::words))]
-pub fn words(alloc: Global, n: u32) -> Result<Vec<u64>, NoMemory>
+pub fn words(alloc: Global, n: u32) -> Result<Vec<Word>, NoMemory>
     ensures { IfOk result (λ v. v.items ≡ spec.words n) }
 {
     let mut words = Vec::new(alloc);
     let mut x = next(u64::from(n));
     for _address in 0..16_usize {
         x = next(x);
-        words.push(byte_of(x))?;
+        words.push(Word::from(byte_of(x)))?;
     }
     Ok(words)
 }

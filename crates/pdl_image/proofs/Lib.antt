@@ -1,4 +1,5 @@
 pub mod Parts
+pub mod Ranges
 pub mod LineWords
 pub mod MapSet
 pub mod LineSteps

@@ -1,19 +1,19 @@
 -- Lines that give words, read back as an image.
-use Rattle.std.proofs.Common.{◌≡◌, ◌≢◌, ℕ, zero, suc, ◌+◌, ◌^◌, ◌<◌, ◌≤◌, refl, sym, ◌∙◌, ap, subst, arith, inl, inr, Bool, true, false, cond, eqb, zero-add, List, [], ◌∷◌, ◌++◌, map, get_or, append_assoc, Option, Some, None, unwrap_or, Ok, codes}
+use Rattle.std.proofs.Common.{◌≡◌, ◌≢◌, ℕ, zero, suc, ◌+◌, ◌-◌, ◌^◌, ◌<◌, ◌≤◌, refl, sym, ◌∙◌, ap, subst, arith, inl, inr, Bool, true, false, cond, eqb, zero-add, add-zero, List, [], ◌∷◌, ◌++◌, map, get_or, append_assoc, Option, Some, None, unwrap_or, Ok, codes}
 use Rattle.std.specs.Prelude.{flat_map}
 use Rattle.std.specs.List.{range_with_len, list_all}
 use Rattle.std.specs.Str.Parse.{digits_value}
-use Rattle.std.proofs.lemmas.Bool.{cases_Bool, cases_order, and_parts, eqb-true, lt-leb}
+use Rattle.std.proofs.lemmas.Bool.{cases_Bool, cases_order, and_parts, eqb-true, lt-leb, le-ltb}
 use Rattle.std.proofs.lemmas.List.FromFn.{get_or-range_with_len, length-range_with_len}
 use Rattle.std.proofs.lemmas.List.Splits.{slice_split-cons_yes, slice_split-cons_no}
 use Rattle.std.proofs.lemmas.Slice.Eq.{bytes_eq-Decides}
 use Rattle.pdl_kit.specs.declared.mem_info.MemInfo.{MemInfo}
 use Rattle.pdl_image.specs.Lines.{lines, byte_before}
-use Rattle.pdl_image.specs.Images.{Word, at_line, broken_rule, broken_by, broken_in, contents, fields, first_wrong, given_value, image, image_after, after_header, is_letter, is_name, is_name_byte, mem_of, or_else, says_nothing, value_at, word_of, words_of}
+use Rattle.pdl_image.specs.Images.{LineWords, at_line, broken_rule, broken_by, broken_in, contents, ends_of, fields, first_wrong, given_value, image, image_after, after_header, is_letter, is_name, is_name_byte, mem_of, or_else, says_nothing, value_at, words_in, words_of}
 use Rattle.pdl_image.proofs.LineSteps.{given_push, value_other, value_same}
-use Rattle.pdl_image.proofs.LineWords.{word_found}
+use Rattle.pdl_image.proofs.LineWords.{words_found}
 use Rattle.pdl_image.proofs.MapSet.{map_same}
-use Rattle.pdl_word.specs.Digits.{is_digit_of, are_digits}
+use Rattle.pdl_word.specs.Digits.{is_digit_of, are_digits, most_hex}
 
 -- ---- a line
 
@@ -62,15 +62,21 @@ fields_at_space (x ∷ xs) ys h = slice_split-cons_no (λ c. eqb c 32) x (xs ++ 
 pub record Says (line name : List ℕ) (address value : ℕ) : Type 0 where
   pub whole : Lacks 10 line
   pub said : says_nothing line ≡ false
-  pub word : word_of line ≡ Some (record { name = name; address = address; value = value })
+  pub word : words_in false line ≡ Some (record { name = name; ends = record { from = address; to = address }; value = value })
 
 no_comment : (name ys : List ℕ) → is_name name ≡ true → says_nothing (name ++ 32 ∷ ys) ≡ false
 no_comment [] ys h = cc
 no_comment (x ∷ []) ys h = rw (differs is_letter 47 x refl (and_parts (is_letter x) _ h).0) refl
 no_comment (x ∷ y ∷ more) ys h = rw (differs is_letter 47 x refl (and_parts (is_letter x) _ h).0) refl
 
+-- decimal digits give one address
+one_address : (a : List ℕ) (address : ℕ) → are_digits 10 10 a ≡ true → address ≡ digits_value 10 a
+    → ends_of false a ≡ Some (record { from = address; to = address })
+unfolding ends_of
+one_address a address d e = rw (d, e) refl
+
 -- a name, decimal digits and hexadecimal ones, with spaces between them
-pub says : (name a v : List ℕ) (address value : ℕ) → is_name name ≡ true → are_digits 10 10 a ≡ true → are_digits 16 16 v ≡ true
+pub says : (name a v : List ℕ) (address value : ℕ) → is_name name ≡ true → are_digits 10 10 a ≡ true → are_digits 16 most_hex v ≡ true
     → address ≡ digits_value 10 a → value ≡ digits_value 16 v → Says (name ++ 32 ∷ (a ++ 32 ∷ v)) name address value
 says name a v address value n d h e f =
     let ds = (and_parts _ _ d).0 in
@@ -79,9 +85,9 @@ says name a v address value n d h e f =
       whole = lacks_append 10 name _ (lacks_name 10 name refl refl n)
           (refl, lacks_append 10 a _ (lacks_all (is_digit_of 10) 10 a refl ds) (refl, lacks_all (is_digit_of 16) 10 v refl hs));
       said = no_comment name (a ++ 32 ∷ v) n;
-      word = word_found (name ++ 32 ∷ (a ++ 32 ∷ v)) name (a ++ 32 ∷ v) a v address value
+      word = words_found false (name ++ 32 ∷ (a ++ 32 ∷ v)) name (a ++ 32 ∷ v) a v (record { from = address; to = address }) value
           (fields_at_space name (a ++ 32 ∷ v) (lacks_name 32 name refl refl n))
-          (fields_at_space a v (lacks_all (is_digit_of 10) 32 a refl ds)) n d h e f;
+          (fields_at_space a v (lacks_all (is_digit_of 10) 32 a refl ds)) n (one_address a address d e) h f;
     }
 
 -- ---- the lines of words by address
@@ -117,35 +123,35 @@ module _ (m : MemInfo) (count : ℕ) (word : ℕ → Option ℕ) (text : ℕ →
 
   -- what a line gives to an address
   line_given : (a k : ℕ) (o : Option ℕ) (more : List (List ℕ)) → a < count → word a ≡ o → k ≢ a
-      → given_value (line_at line a o ++ more) m.name k ≡ given_value more m.name k
+      → given_value false (line_at line a o ++ more) m.name k ≡ given_value false more m.name k
   unfolding given_value
   line_given a k None more l e ne = refl
   line_given a k (Some v) more l e ne =
-      let w : Word = record { name = m.name; address = a; value = v } in
-      ap (λ o. or_else (value_at o m.name k) (given_value more m.name k)) (g.says a v l e).word
-      ∙ ap (λ o. or_else o (given_value more m.name k)) (value_other w m.name k (λ p q. ne q))
+      let w : LineWords = record { name = m.name; ends = record { from = a; to = a }; value = v } in
+      ap (λ o. or_else (value_at o m.name k) (given_value false more m.name k)) (g.says a v l e).word
+      ∙ ap (λ o. or_else o (given_value false more m.name k)) (value_other false w m.name k (λ p q r. ne (omega (arith, q, r))))
 
-  here_given : (a : ℕ) (o : Option ℕ) (more : List (List ℕ)) → a < count → word a ≡ o → given_value more m.name a ≡ None
-      → given_value (line_at line a o ++ more) m.name a ≡ o
+  here_given : (a : ℕ) (o : Option ℕ) (more : List (List ℕ)) → a < count → word a ≡ o → given_value false more m.name a ≡ None
+      → given_value false (line_at line a o ++ more) m.name a ≡ o
   unfolding given_value
   here_given a None more l e f = f
   here_given a (Some v) more l e f =
-      let w : Word = record { name = m.name; address = a; value = v } in
-      ap (λ o. or_else (value_at o m.name a) (given_value more m.name a)) (g.says a v l e).word
-      ∙ ap (λ o. or_else o (given_value more m.name a)) (value_same w m.name refl)
+      let w : LineWords = record { name = m.name; ends = record { from = a; to = a }; value = v } in
+      ap (λ o. or_else (value_at o m.name a) (given_value false more m.name a)) (g.says a v l e).word
+      ∙ ap (λ o. or_else o (given_value false more m.name a)) (value_same false w m.name a refl (omega arith) (omega arith))
 
   -- nothing is given to an address before
-  none_before : (a n k : ℕ) → a + n ≤ count → k < a → given_value (lines_from line word a n) m.name k ≡ None
+  none_before : (a n k : ℕ) → a + n ≤ count → k < a → given_value false (lines_from line word a n) m.name k ≡ None
   unfolding given_value
   none_before a zero k h l = refl
   none_before a (suc n) k h l =
       line_given a k (word a) _ (omega (arith, h)) refl (λ e. omega (arith, l, e)) ∙ none_before (a + 1) n k (omega (arith, h)) (omega (arith, l))
 
-  word_given : (a n k : ℕ) → a + n ≤ count → a ≤ k → k < a + n → given_value (lines_from line word a n) m.name k ≡ word k
+  word_given : (a n k : ℕ) → a + n ≤ count → a ≤ k → k < a + n → given_value false (lines_from line word a n) m.name k ≡ word k
   word_given a zero k h l r = absurd (omega (arith, l, r))
   word_given a (suc n) k h l r = elim (cases_order k a) [
     | inl e ↦
-        let P : ℕ → Type 0 = λ i. given_value (lines_from line word a (suc n)) m.name i ≡ word i in
+        let P : ℕ → Type 0 = λ i. given_value false (lines_from line word a (suc n)) m.name i ≡ word i in
         subst P (sym e) (here_given a (word a) _ (omega (arith, h)) refl (none_before (a + 1) n a (omega (arith, h)) (omega arith)))
     | inr o ↦ elim o [
       | inl b ↦ absurd (omega (arith, b, l))
@@ -157,53 +163,55 @@ module _ (m : MemInfo) (count : ℕ) (word : ℕ → Option ℕ) (text : ℕ →
 
   -- ---- no line breaks a rule
 
-  rule_none : (before : List (List ℕ)) (w : Word) → w.address < m.depth → w.value < 2 ^ m.width
-      → given_value before w.name w.address ≡ None → broken_in before w (Some m) ≡ None
-  rule_none before w l s e = rw (lt-leb m.depth w.address l, lt-leb (2 ^ m.width) w.value s, e) refl
+  rule_none : (before : List (List ℕ)) (a v : ℕ) → a < m.depth → v < 2 ^ m.width → given_value false before m.name a ≡ None
+      → broken_in false before (record { name = m.name; ends = record { from = a; to = a }; value = v }) (Some m) ≡ None
+  rule_none before a v l s e =
+      let size : a + 1 - a ≡ 1 = omega arith in
+      rw (lt-leb m.depth a l, lt-leb (2 ^ m.width) v s, le-ltb a a (omega arith), size, add-zero, e) refl
 
-  line_right : (before : List (List ℕ)) (a v : ℕ) → a < count → word a ≡ Some v → given_value before m.name a ≡ None
-      → broken_rule (m ∷ []) before (line a v) ≡ None
+  line_right : (before : List (List ℕ)) (a v : ℕ) → a < count → word a ≡ Some v → given_value false before m.name a ≡ None
+      → broken_rule false (m ∷ []) before (line a v) ≡ None
   unfolding broken_rule
   line_right before a v l e f =
-      let w : Word = record { name = m.name; address = a; value = v } in
+      let w : LineWords = record { name = m.name; ends = record { from = a; to = a }; value = v } in
       let s = g.says a v l e in
       let here : mem_of (m ∷ []) m.name ≡ Some m = ap (λ b. cond b (Some m) None) ((bytes_eq-Decides m.name m.name).1 refl) in
-      ap (λ b. cond b None (broken_by (m ∷ []) before (word_of (line a v)))) s.said
-      ∙ ap (broken_by (m ∷ []) before) s.word ∙ ap (broken_in before w) here
-      ∙ rule_none before w (g.fits a v l e).0 (g.fits a v l e).1 f
+      ap (λ b. cond b None (broken_by false (m ∷ []) before (words_in false (line a v)))) s.said
+      ∙ ap (broken_by false (m ∷ []) before) s.word ∙ ap (broken_in false before w) here
+      ∙ rule_none before a v (g.fits a v l e).0 (g.fits a v l e).1 f
 
   -- a line more gives nothing to a later address
   later_free : (before : List (List ℕ)) (a v k : ℕ) → a < count → word a ≡ Some v → a < k
-      → given_value before m.name k ≡ None → given_value (before ++ line a v ∷ []) m.name k ≡ None
+      → given_value false before m.name k ≡ None → given_value false (before ++ line a v ∷ []) m.name k ≡ None
   later_free before a v k l e h f =
-      let w : Word = record { name = m.name; address = a; value = v } in
-      given_push before (line a v) m.name k ∙ ap (λ o. or_else o (value_at (word_of (line a v)) m.name k)) f
-      ∙ ap (λ o. value_at o m.name k) (g.says a v l e).word ∙ value_other w m.name k (λ p q. omega (arith, h, q))
+      let w : LineWords = record { name = m.name; ends = record { from = a; to = a }; value = v } in
+      given_push false before (line a v) m.name k ∙ ap (λ o. or_else o (value_at (words_in false (line a v)) m.name k)) f
+      ∙ ap (λ o. value_at o m.name k) (g.says a v l e).word ∙ value_other false w m.name k (λ p q r. omega (arith, h, r))
 
   abbrev Free : ℕ → List (List ℕ) → Type 0
-  Free a before = (k : ℕ) → a ≤ k → given_value before m.name k ≡ None
+  Free a before = (k : ℕ) → a ≤ k → given_value false before m.name k ≡ None
 
   none_after : (before : List (List ℕ)) (number a : ℕ) (o : Option ℕ) (more : List (List ℕ)) → a < count → word a ≡ o → Free a before
-      → ((b : List (List ℕ)) (i : ℕ) → Free (a + 1) b → first_wrong (m ∷ []) b i more ≡ None)
-      → first_wrong (m ∷ []) before number (line_at line a o ++ more) ≡ None
+      → ((b : List (List ℕ)) (i : ℕ) → Free (a + 1) b → first_wrong false (m ∷ []) b i more ≡ None)
+      → first_wrong false (m ∷ []) before number (line_at line a o ++ more) ≡ None
   unfolding first_wrong
   none_after before number a None more l e free later = later before number (λ k h. free k (omega (arith, h)))
   none_after before number a (Some v) more l e free later =
-      ap (λ r. at_line number r (first_wrong (m ∷ []) (before ++ line a v ∷ []) (number + 1) more)) (line_right before a v l e (free a (omega arith)))
+      ap (λ r. at_line number r (first_wrong false (m ∷ []) (before ++ line a v ∷ []) (number + 1) more)) (line_right before a v l e (free a (omega arith)))
       ∙ later (before ++ line a v ∷ []) (number + 1) (λ k h. later_free before a v k l e (omega (arith, h)) (free k (omega (arith, h))))
 
   none_wrong : (a n : ℕ) → a + n ≤ count → (before : List (List ℕ)) (number : ℕ) → Free a before
-      → first_wrong (m ∷ []) before number (lines_from line word a n) ≡ None
+      → first_wrong false (m ∷ []) before number (lines_from line word a n) ≡ None
   unfolding first_wrong
   none_wrong a zero h before number free = refl
   none_wrong a (suc n) h before number free =
       none_after before number a (word a) (lines_from line word (a + 1) n) (omega (arith, h)) refl free (none_wrong (a + 1) n (omega (arith, h)))
 
-  nothing_before : (k : ℕ) → given_value [] m.name k ≡ None
+  nothing_before : (k : ℕ) → given_value false [] m.name k ≡ None
   unfolding given_value
   nothing_before k = refl
 
-  words_same : m.depth ≤ count → words_of (lines_from line word 0 count) m ≡ map (λ k. unwrap_or (word k) 0) (range_with_len 0 m.depth)
+  words_same : m.depth ≤ count → words_of false (lines_from line word 0 count) m ≡ map (λ k. unwrap_or (word k) 0) (range_with_len 0 m.depth)
   words_same h = map_same _ _ (range_with_len 0 m.depth) (λ k d l.
       let a : ℕ = get_or (range_with_len 0 m.depth) k d in
       let r : k < m.depth = omega (arith, l, length-range_with_len 0 m.depth) in
@@ -220,6 +228,6 @@ module _ (m : MemInfo) (count : ℕ) (word : ℕ → Option ℕ) (text : ℕ →
       let first : lines (codes "image 1\n" ++ rest) ≡ codes "image 1" ∷ lines rest =
       lines_at_feed (codes "image 1") rest (refl, (refl, (refl, (refl, (refl, (refl, (refl, tt))))))) in
       ap (λ ls. image_after (m ∷ []) (after_header ls)) first
-      ∙ ap (λ ls. contents (m ∷ []) ls (first_wrong (m ∷ []) [] 2 ls)) (all_lines 0 count (omega arith))
-      ∙ ap (contents (m ∷ []) (lines_from line word 0 count)) (none_wrong 0 count (omega arith) [] 2 (λ k l. nothing_before k))
+      ∙ ap (λ ls. contents false (m ∷ []) ls (first_wrong false (m ∷ []) [] 2 ls)) (all_lines 0 count (omega arith))
+      ∙ ap (contents false (m ∷ []) (lines_from line word 0 count)) (none_wrong 0 count (omega arith) [] 2 (λ k l. nothing_before k))
       ∙ ap (λ ws. Ok (ws ∷ [])) (words_same h)

@@ -2,12 +2,13 @@
 ghost use Rattle.std.specs.Prelude.{[], length, slice_index_or, ◌<◌, ◌≡◌};
 
 use pdl_kit::Seq;
+use pdl_word::Word;
 use std::marker::Model;
 
 /// The words that memories have at the start: one list for each memory, in the order of their declarations.
 #[derive(Drop)]
 pub struct Image {
-    words: Seq<Seq<u64>>,
+    words: Seq<Seq<Word>>,
 }
 
 impl Model for Image {
@@ -20,14 +21,14 @@ impl Model for Image {
 
 impl Image {
     /// An image of the words of each memory, in the order of the memories; it takes no memory.
-    pub fn from_lists(words: Seq<Seq<u64>>) -> Image
+    pub fn from_lists(words: Seq<Seq<Word>>) -> Image
         ensures { result ≡ words }
     {
         Image { words }
     }
 
     /// The words of the memory at place `m`, counted from 0, by ascending address.
-    pub fn words(&self, m: usize) -> &[u64]
+    pub fn words(&self, m: usize) -> &[Word]
         requires { m < length self.now }
         ensures { result.now ≡ slice_index_or self.now m [] }
     {

@@ -1,7 +1,7 @@
 -- The names of the rules as they are printed.
 use Rattle.std.specs.Prelude.{ℕ, List, codes}
 use Rattle.pdl_kit.specs.declared.rule.Rule.{Rule}
-use Rattle.pdl_kit.specs.declared.rule.Rule.TheVariants.{G1, Z1, Z2, Z3, Z4, Z5, Z6, Z7, N1, N2, N3, W1, W2, W3, W4, W5, W6, F1, F2, F3, F4, F5, L1, L2, L3, L4, L5, L6, L7, L8, S1, S2, S3, S4, S5, S6, S7, I1, I2, I3, I4, I5, I6, Y1, Y2, Y3, V1, V2, V3, V4, V5, B1, B2, B3, B4, B5, A1, A2, A3, A4, A5, A6, A7, A8, P1}
+use Rattle.pdl_kit.specs.declared.rule.Rule.TheVariants.{G1, Z1, Z2, Z3, Z4, Z5, Z6, Z7, N1, N2, N3, W1, W2, W3, W4, W5, W6, F1, F2, F3, F4, F5, L1, L2, L3, L4, L5, L6, L7, L8, S1, S2, S3, S4, S5, S6, S7, I1, I2, I3, I4, I5, I6, I7, Y1, Y2, Y3, V1, V2, V3, V4, V5, B1, B2, B3, B4, B5, A1, A2, A3, A4, A5, A6, A7, A8, P1}
 
 -- the two characters of a rule's name
 abbrev pub text_of : Rule → List ℕ
@@ -49,6 +49,7 @@ text_of I3 = codes "I3"
 text_of I4 = codes "I4"
 text_of I5 = codes "I5"
 text_of I6 = codes "I6"
+text_of I7 = codes "I7"
 text_of Y1 = codes "Y1"
 text_of Y2 = codes "Y2"
 text_of Y3 = codes "Y3"

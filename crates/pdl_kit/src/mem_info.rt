@@ -1,7 +1,7 @@
 // A memory's declaration.
 use crate::name::Name;
 
-/// A memory as it is declared: its name, the bits of a word (1 to 64), how many words it has, and whether its replies may be late.
+/// A memory as it is declared: its name, the bits of a word (1 to `WIDEST`), how many words it has, and whether its replies may be late.
 #[derive(Drop, Clone)]
 pub struct MemInfo {
     pub name: Name,

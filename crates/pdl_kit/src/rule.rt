@@ -51,6 +51,7 @@ pub enum Rule {
     I4,
     I5,
     I6,
+    I7,
     Y1,
     Y2,
     Y3,
@@ -95,7 +96,7 @@ impl Rule {
             L1 | L2 | L3 | L4 | L5 | L6 | L7 | L8 => b'L',
             S1 | S2 | S3 | S4 | S5 | S6 | S7 => b'S',
             P1 => b'P',
-            I1 | I2 | I3 | I4 | I5 | I6 => b'I',
+            I1 | I2 | I3 | I4 | I5 | I6 | I7 => b'I',
             Y1 | Y2 | Y3 => b'Y',
             V1 | V2 | V3 | V4 | V5 => b'V',
             B1 | B2 | B3 | B4 | B5 => b'B',
@@ -114,7 +115,7 @@ impl Rule {
             Z4 | W4 | F4 | L4 | S4 | I4 | V4 | B4 | A4 => b'4',
             Z5 | W5 | F5 | L5 | S5 | I5 | V5 | B5 | A5 => b'5',
             Z6 | W6 | L6 | S6 | I6 | A6 => b'6',
-            Z7 | L7 | S7 | A7 => b'7',
+            Z7 | L7 | S7 | I7 | A7 => b'7',
             L8 | A8 => b'8',
         }
     }

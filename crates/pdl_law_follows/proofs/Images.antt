@@ -15,7 +15,7 @@ use Rattle.pdl_source_paths.proofs.Memories.{mems_length}
 use Rattle.pdl_rules.specs.Memories.{info_of, infos_of}
 use Rattle.pdl_rules.specs.Typed.{is_memory, AreDistinct}
 use Rattle.pdl_image.specs.Lines as image_lines
-use Rattle.pdl_image.specs.Images.{mem_of, broken_by, broken_rule, at_line, first_wrong, words_of, after_header, contents, image, image_after, says_nothing, word_of}
+use Rattle.pdl_image.specs.Images.{mem_of, broken_by, broken_rule, at_line, first_wrong, words_of, after_header, contents, image, image_after, says_nothing, words_in}
 use Rattle.pdl_image.specs.Images as images
 use Rattle.pdl_image.specs.declared.file_error.FileError.{FileError}
 use Rattle.pdl_law_parts.specs.Places.{net_place}
@@ -61,21 +61,22 @@ same_found ms h x = by_port (net_infos ms) x ∙ at (is_memory ms x) refl ∙ sy
 
 -- ---- lines
 
-same_broken : (ms : List Mem) → AreDistinct ms → (before : List (List ℕ)) (w : Option images.Word)
-    → broken_by (net_infos ms) before w ≡ broken_by (infos_of ms) before w
-same_broken ms h before None = refl
-same_broken ms h before (Some w) = ap (images.broken_in before w) (same_found ms h w.name)
+same_broken : (ranged : Bool) (ms : List Mem) → AreDistinct ms → (before : List (List ℕ)) (w : Option images.LineWords)
+    → broken_by ranged (net_infos ms) before w ≡ broken_by ranged (infos_of ms) before w
+same_broken ranged ms h before None = refl
+same_broken ranged ms h before (Some w) = ap (images.broken_in ranged before w) (same_found ms h w.name)
 
-same_rule : (ms : List Mem) → AreDistinct ms → (before : List (List ℕ)) (line : List ℕ)
-    → broken_rule (net_infos ms) before line ≡ broken_rule (infos_of ms) before line
+same_rule : (ranged : Bool) (ms : List Mem) → AreDistinct ms → (before : List (List ℕ)) (line : List ℕ)
+    → broken_rule ranged (net_infos ms) before line ≡ broken_rule ranged (infos_of ms) before line
 unfolding broken_rule
-same_rule ms h before line = ap (λ o. if says_nothing line then None else o) (same_broken ms h before (word_of line))
+same_rule ranged ms h before line = ap (λ o. if says_nothing line then None else o) (same_broken ranged ms h before (words_in ranged line))
 
-same_wrong : (ms : List Mem) → AreDistinct ms → (before : List (List ℕ)) (number : ℕ) (rest : List (List ℕ))
-    → first_wrong (net_infos ms) before number rest ≡ first_wrong (infos_of ms) before number rest
+same_wrong : (ranged : Bool) (ms : List Mem) → AreDistinct ms → (before : List (List ℕ)) (number : ℕ) (rest : List (List ℕ))
+    → first_wrong ranged (net_infos ms) before number rest ≡ first_wrong ranged (infos_of ms) before number rest
 unfolding first_wrong
-same_wrong ms h before number [] = refl
-same_wrong ms h before number (line ∷ more) = ap₂ (at_line number) (same_rule ms h before line) (same_wrong ms h (before ++ line ∷ []) (number + 1) more)
+same_wrong ranged ms h before number [] = refl
+same_wrong ranged ms h before number (line ∷ more) =
+    ap₂ (at_line number) (same_rule ranged ms h before line) (same_wrong ranged ms h (before ++ line ∷ []) (number + 1) more)
 
 -- ---- words
 
@@ -120,16 +121,17 @@ told_in_order p ms same f =
 
 -- ---- the whole
 
-same_contents : (p : tree.Pipe) (rest : List (List ℕ)) (o : Option FileError)
-    → contents (infos_of p.mems) rest o ≡ taken_in_order (flat p) (contents (net_infos p.mems) rest o)
-same_contents p rest None = ap (λ words. Ok words) (sym (told_in_order (flat p) p.mems refl (words_of rest)))
-same_contents p rest (Some refusal) = refl
+same_contents : (ranged : Bool) (p : tree.Pipe) (rest : List (List ℕ)) (o : Option FileError)
+    → contents ranged (infos_of p.mems) rest o ≡ taken_in_order (flat p) (contents ranged (net_infos p.mems) rest o)
+same_contents ranged p rest None = ap (λ words. Ok words) (sym (told_in_order (flat p) p.mems refl (words_of ranged rest)))
+same_contents ranged p rest (Some refusal) = refl
 
-same_after : (p : tree.Pipe) → AreDistinct p.mems → (o : Option (List (List ℕ)))
+same_after : (p : tree.Pipe) → AreDistinct p.mems → (o : Option (Bool × List (List ℕ)))
     → image_after (infos_of p.mems) o ≡ taken_in_order (flat p) (image_after (net_infos p.mems) o)
 same_after p h None = refl
-same_after p h (Some rest) =
-    ap (contents (infos_of p.mems) rest) (sym (same_wrong p.mems h [] 2 rest)) ∙ same_contents p rest (first_wrong (net_infos p.mems) [] 2 rest)
+same_after p h (Some g) =
+    ap (contents g.0 (infos_of p.mems) g.1) (sym (same_wrong g.0 p.mems h [] 2 g.1))
+    ∙ same_contents g.0 p g.1 (first_wrong g.0 (net_infos p.mems) [] 2 g.1)
 
 -- a file gives the memories of a pipe, in declared order, what it gives those of its netlist, or is refused by the same rule at the same line
 pub same_image : (p : tree.Pipe) → AreDistinct p.mems → (text : List ℕ)

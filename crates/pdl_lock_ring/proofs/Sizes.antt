@@ -8,6 +8,7 @@ use Rattle.std.proofs.lemmas.List.{get_or_append_left, get_or_push}
 use Rattle.std.proofs.lemmas.Nat.{pow-add}
 use Rattle.pdl_lock_ring.specs.declared.layout.RingLayout.{RingLayout}
 use Rattle.pdl_lock_ring.specs.Slots.{IsSize, IsSized, ticket_bits, numbers_from, slot_numbers, slots_of}
+use Rattle.pdl_word.specs.Words.{widest}
 
 -- a power of two that is not below another, and below twice the other
 double : (r : ℕ) → 2 * 2 ^ r ≡ 2 ^ (r + 1)
@@ -49,9 +50,9 @@ size_tickets = by_size (λ n. 2 ^ ticket_bits n ≡ 2 * n) refl refl refl refl r
 pub ticket_some : (n : ℕ) → IsSize n → 1 ≤ ticket_bits n
 ticket_some = by_size (λ n. 1 ≤ ticket_bits n) (omega arith) (omega arith) (omega arith) (omega arith) (omega arith)
 
--- a ticket has at most 64 bits
-pub ticket_few : (n : ℕ) → IsSize n → ticket_bits n ≤ 64
-ticket_few = by_size (λ n. ticket_bits n ≤ 64) (omega arith) (omega arith) (omega arith) (omega arith) (omega arith)
+-- a ticket has at most widest bits
+pub ticket_few : (n : ℕ) → IsSize n → ticket_bits n ≤ widest
+ticket_few = by_size (λ n. ticket_bits n ≤ widest) (omega arith) (omega arith) (omega arith) (omega arith) (omega arith)
 
 -- a size is half of that power of two
 pub size_power : (n : ℕ) → IsSize n → n ≡ 2 ^ (ticket_bits n - 1)

@@ -1,6 +1,6 @@
 -- The slots of a lock, which never move: the pending write of a ticket stands in the slot of that number modulo their count. The first register is the head, the ticket of the oldest pending write, the second one the tail, the ticket of the next reservation; each slot has three registers: the address, whether it has its value, and the value, or in a renaming lock its place in the array.
 use Rattle.std.specs.Prelude.{◌≡◌, IsTrue, ◌||◌, not, ◌==◌, if◌then◌else◌, ℕ, zero, suc, [], ◌∷◌, ◌++◌, Option, ◌+◌, ◌-◌, ◌*◌, ◌%◌, ◌^◌, ◌<◌, ◌≤◌, List, length, slice_index, Some, is_some}
-use Rattle.pdl_word.specs.Words.{bit}
+use Rattle.pdl_word.specs.Words.{bit, widest}
 use Rattle.pdl_kit.specs.declared.mem_info.MemInfo.{MemInfo}
 use Rattle.pdl_net.specs.declared.Net.TheVariants.{Reg}
 use Rattle.pdl_net.specs.Circuit.{Circuit, State, HasReg, reg_width, reg_reset, HasArray, array_width, array_depth}
@@ -40,7 +40,7 @@ pub record IsMemDepth (d : ℕ) : Type 0 where
 pub record Suits (n : ℕ) (m : MemInfo) : Type 0 where
   pub size : IsSize n
   pub width_low : 1 ≤ m.width
-  pub width_high : m.width ≤ 64
+  pub width_high : m.width ≤ widest
   pub depth : IsMemDepth m.depth
 
 -- tickets are numbers modulo twice the size
@@ -60,14 +60,14 @@ pub record IsSized (l : RingLayout) : Type 0 where
   pub whole : 2 ^ l.ticket ≡ 2 * l.size
   pub power : l.size ≡ 2 ^ (l.ticket - 1)
   pub ticket_low : 1 ≤ l.ticket
-  pub ticket_high : l.ticket ≤ 64
+  pub ticket_high : l.ticket ≤ widest
   pub width_low : 1 ≤ l.width
-  pub width_high : l.width ≤ 64
+  pub width_high : l.width ≤ widest
   pub kept_low : 1 ≤ l.kept
-  pub kept_high : l.kept ≤ 64
+  pub kept_high : l.kept ≤ widest
   pub same : l.content ≡ Value → l.kept ≡ l.width
   pub bits_low : 1 ≤ l.bits
-  pub bits_high : l.bits ≤ 64
+  pub bits_high : l.bits ≤ widest
   pub small : l.from + 2 + 3 * l.size < 2 ^ 64
 
 -- n numbers that count up from this one

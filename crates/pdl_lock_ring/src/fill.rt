@@ -16,6 +16,7 @@ use pdl_build::Builder;
 use pdl_kit::NoMemory;
 use pdl_lockapi::{LockPorts, TicketWrite};
 use pdl_net::{BinOp, Net};
+use pdl_word::Word;
 
 /// The write port of a number.
 pub fn write_port(p: &LockPorts, j: usize) -> TicketWrite
@@ -80,7 +81,7 @@ fn emit_number(b: &mut Builder, l: RingLayout, k: usize) -> Result<Net, NoMemory
     ensures means { IfOk result (λ x. Means b.new x (number_at l k)) }
     ensures extends { Extends b.old b.new }
 {
-    b.constant(l.ticket, k as u64)
+    b.constant(l.ticket, k as Word)
 }
 
 /// Slot k's address after the reservations.

@@ -12,6 +12,7 @@ use pdl_build::Builder;
 use pdl_kit::NoMemory;
 use pdl_lockapi::Kind;
 use pdl_net::{BinOp, Net};
+use pdl_word::Word;
 
 /// A number modulo the number of slots.
 #[tactic(auto)]
@@ -21,13 +22,13 @@ pub fn emit_slot_of(b: &mut Builder, l: RingLayout, ticket: Net) -> Result<Net, 
     ensures means { IfOk result (λ x. Means b.new x (slot_of l (signal b.old ticket))) }
     ensures extends { Extends b.old b.new }
 {
-    let mask = b.constant(l.ticket, l.size as u64 - 1)?;
+    let mask = b.constant(l.ticket, l.size as Word - 1)?;
     b.bin(BinOp::And, ticket, mask)
 }
 
 /// A word with a bit for each slot, moved up by the slot of a ticket.
 #[tactic(auto, using(crate::proofs::SlotWidths::extending))]
-fn emit_shifted(b: &mut Builder, l: RingLayout, slots: u64, ticket: Net) -> Result<Net, NoMemory>
+fn emit_shifted(b: &mut Builder, l: RingLayout, slots: Word, ticket: Net) -> Result<Net, NoMemory>
     requires sized { IsSized l }
     requires ticket { HasWidth b.old ticket l.ticket }
     requires few { slots < 2 ^ l.size }
@@ -51,7 +52,7 @@ pub fn emit_from(b: &mut Builder, l: RingLayout, ticket: Net) -> Result<Net, NoM
     ensures wide { IfOk result (λ x. (signal b.new x).width ≡ l.size) }
     ensures extends { Extends b.old b.new }
 {
-    let all = power(l.size as u8) as u64 - 1;
+    let all = power(l.size as u8) as Word - 1;
     emit_shifted(b, l, all, ticket)
 }
 

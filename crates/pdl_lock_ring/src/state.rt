@@ -9,6 +9,7 @@ ghost use Rattle.pdl_lockapi.specs.SlotLaws.{SlotsLaw};
 ghost use Rattle.pdl_lock_ring.specs.Slots.{Suits, IsMemDepth, IsSized, HasOwnArray, HasSlots, AreFirst, AreReset, IsMemArray, IsLayout, ArePlaced, Stands, layout_of, ticket_bits, numbers_from, slot_numbers, slots_of};
 ghost use Rattle.pdl_lock_ring.specs.Registers.{HasRow, IsRowReset, row_of};
 ghost use Rattle.pdl_lock_ring.specs.Looks.{count_signal, second_ticket, room_signal, room2_signal};
+ghost use Rattle.pdl_word.specs.Words.{widest};
 
 use crate::choice::Registers;
 use crate::layout::{Content, RingLayout, address_bits, ticket_width};
@@ -16,6 +17,7 @@ use pdl_build::Builder;
 use pdl_kit::{MemInfo, NoMemory, Seq};
 use pdl_lockapi::LockRegs;
 use pdl_net::{BinOp, Net};
+use pdl_word::Word;
 use std::alloc::Global;
 
 /// How many writes are pending.
@@ -51,7 +53,7 @@ pub fn emit_room(b: &mut Builder, l: RingLayout) -> Result<Net, NoMemory>
     ensures extends { Extends b.old b.new }
 {
     let count = emit_count(b, l)?;
-    let all = b.constant(l.ticket, l.size as u64)?;
+    let all = b.constant(l.ticket, l.size as Word)?;
     b.bin(BinOp::Lt, count, all)
 }
 
@@ -64,16 +66,16 @@ pub fn emit_room2(b: &mut Builder, l: RingLayout) -> Result<Net, NoMemory>
     ensures extends { Extends b.old b.new }
 {
     let count = emit_count(b, l)?;
-    let all = b.constant(l.ticket, l.size as u64 - 1)?;
+    let all = b.constant(l.ticket, l.size as Word - 1)?;
     b.bin(BinOp::Lt, count, all)
 }
 
 /// So many registers of one width; they hold numbers from `start` on in the first cycle, each `step` greater than the one before.
 #[tactic(auto, using(crate::proofs::Rows::row_none, crate::proofs::Rows::row_more, crate::proofs::Rows::reset_none, crate::proofs::Rows::reset_more, crate::proofs::Rows::fits))]
-pub fn emit_row(b: &mut Builder, r: Registers, start: u64, step: u64) -> Result<(), NoMemory>
+pub fn emit_row(b: &mut Builder, r: Registers, start: Word, step: Word) -> Result<(), NoMemory>
     requires first { r.first ≡ length b.old.regs }
     requires low { 1 ≤ r.width }
-    requires high { r.width ≤ 64 }
+    requires high { r.width ≤ widest }
     requires fits { start + step * r.count ≤ 2 ^ r.width }
     requires below { start < 2 ^ r.width }
     requires few { step ≤ 1 }
@@ -84,7 +86,7 @@ pub fn emit_row(b: &mut Builder, r: Registers, start: u64, step: u64) -> Result<
     ensures extends { Extends b.old b.new }
 {
     for k in 0..r.count {
-        b.reg(r.width, start + step * k as u64)?;
+        b.reg(r.width, start + step * k as Word)?;
     }
     let _count = b.reg_count();
     Ok(())
@@ -103,12 +105,12 @@ fn row(l: RingLayout, first: usize, width: u8) -> Registers
 
 /// What the slots hold in the first cycle: 0, or places that are numbered from `place` on.
 #[tactic(auto, using(crate::proofs::Rows::contents_made))]
-fn emit_first_contents(b: &mut Builder, l: RingLayout, place: u64) -> Result<(), NoMemory>
+fn emit_first_contents(b: &mut Builder, l: RingLayout, place: Word) -> Result<(), NoMemory>
     requires first { length b.old.regs ≡ l.from + 2 + 2 * l.size }
     requires places { l.content ≡ Content.Place → place + l.size ≤ 2 ^ l.kept }
     requires below { place < 2 ^ l.kept }
     requires kept_low { 1 ≤ l.kept }
-    requires kept_high { l.kept ≤ 64 }
+    requires kept_high { l.kept ≤ widest }
     ensures row { OnOk result (HasRow b.new
         (row_of l (l.from + 2 + 2 * l.size) l.kept) l.size) }
     ensures reset { OnOk result (AreFirst b.new l place) }
@@ -125,16 +127,16 @@ fn emit_first_contents(b: &mut Builder, l: RingLayout, place: u64) -> Result<(),
 
 /// The registers of a layout; in the first cycle head and tail are 0, and places are numbered from `place` on.
 #[tactic(auto, using(crate::proofs::Rows::slots_made, crate::proofs::Rows::reset_made))]
-pub fn emit_registers(b: &mut Builder, l: RingLayout, place: u64) -> Result<(), NoMemory>
+pub fn emit_registers(b: &mut Builder, l: RingLayout, place: Word) -> Result<(), NoMemory>
     requires from { l.from ≡ length b.old.regs }
     requires places { l.content ≡ Content.Place → place + l.size ≤ 2 ^ l.kept }
     requires below { place < 2 ^ l.kept }
     requires ticket_low { 1 ≤ l.ticket }
-    requires ticket_high { l.ticket ≤ 64 }
+    requires ticket_high { l.ticket ≤ widest }
     requires bits_low { 1 ≤ l.bits }
-    requires bits_high { l.bits ≤ 64 }
+    requires bits_high { l.bits ≤ widest }
     requires kept_low { 1 ≤ l.kept }
-    requires kept_high { l.kept ≤ 64 }
+    requires kept_high { l.kept ≤ widest }
     requires array { HasOwnArray b.old l }
     ensures small { OnOk result (l.from + 2 + 3 * l.size < 2 ^ 64) }
     ensures count { OnOk result (length b.new.regs ≡ l.from + 2 + 3 * l.size) }
@@ -157,7 +159,7 @@ pub fn emit_registers(b: &mut Builder, l: RingLayout, place: u64) -> Result<(), 
 #[tactic(auto, using(pdl_net::proofs::Keeps::keeping))]
 fn emit_array(b: &mut Builder, mem: &MemInfo) -> Result<Option<usize>, NoMemory>
     requires width_low { 1 ≤ mem.now.width }
-    requires width_high { mem.now.width ≤ 64 }
+    requires width_high { mem.now.width ≤ widest }
     requires depth { IsMemDepth mem.now.depth }
     ensures array { IfOk result (λ m. IsMemArray b.old b.new mem.now m) }
     ensures regs { OnOk result (b.new.regs ≡ b.old.regs) }

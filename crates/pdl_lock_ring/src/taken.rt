@@ -17,6 +17,7 @@ use pdl_build::Builder;
 use pdl_kit::NoMemory;
 use pdl_lockapi::{LockPorts, ReservePort};
 use pdl_net::Net;
+use pdl_word::Word;
 
 /// Whether one reserve port asks for an entry, whether two do, the address of the last that does, and that of the one before it.
 #[derive(Clone, Copy)]
@@ -113,7 +114,7 @@ pub fn emit_gate(b: &mut Builder, l: RingLayout, on: Net, ticket: Net) -> Result
     ensures extends { Extends b.old b.new }
 {
     let slot = emit_slot_of(b, l, ticket)?;
-    let none = b.constant(l.ticket, l.size as u64)?;
+    let none = b.constant(l.ticket, l.size as Word)?;
     b.mux(on, slot, none)
 }
 

@@ -8,6 +8,7 @@ ghost use Rattle.pdl_net.specs.Growth.{Extends};
 ghost use Rattle.pdl_lock_ring.specs.Slots.{IsSized, HasSlots, content_signal};
 ghost use Rattle.pdl_lock_ring.specs.Looks.{no_slots, young_slots, wins_at, youngest_ready, youngest_value};
 ghost use Rattle.pdl_lock_ring.specs.Seeks.{IsWon, IsEither};
+ghost use Rattle.pdl_word.specs.Words.{widest};
 
 use crate::choice::power;
 use crate::layout::RingLayout;
@@ -15,6 +16,7 @@ use crate::look::{emit_from, emit_hits};
 use pdl_build::Builder;
 use pdl_kit::NoMemory;
 use pdl_net::{BinOp, Net};
+use pdl_word::Word;
 
 /// What the winner among some slots holds: whether it has its value, and its content; 0 where the winner is none of them.
 #[derive(Clone, Copy)]
@@ -38,7 +40,7 @@ fn emit_young(b: &mut Builder, l: RingLayout, k: usize) -> Result<Net, NoMemory>
     let second = b.not(from)?;
     let rest = b.constant(
         l.size as u8,
-        power(l.size as u8) as u64 - power(place) as u64,
+        power(l.size as u8) as Word - power(place) as Word,
     )?;
     let first = b.slice(from, place, place)?;
     let either = b.bin(BinOp::Or, rest, second)?;
@@ -60,7 +62,7 @@ fn emit_wins(b: &mut Builder, l: RingLayout, hits: Net, k: usize) -> Result<Net,
 {
     let young = emit_young(b, l, k)?;
     let seen = b.bin(BinOp::And, hits, young)?;
-    let alone = b.constant(l.size as u8, power(k as u8) as u64)?;
+    let alone = b.constant(l.size as u8, power(k as u8) as Word)?;
     b.bin(BinOp::Eq, seen, alone)
 }
 
@@ -68,7 +70,7 @@ fn emit_wins(b: &mut Builder, l: RingLayout, hits: Net, k: usize) -> Result<Net,
 #[tactic(auto)]
 fn emit_gated(b: &mut Builder, on: Net, net: Net, width: u8) -> Result<Net, NoMemory>
     requires low { 1 ≤ width }
-    requires high { width ≤ 64 }
+    requires high { width ≤ widest }
     requires on { HasWidth b.old on 1 }
     requires net { HasWidth b.old net width }
     ensures means { IfOk result (λ x. Means b.new x

@@ -19,6 +19,7 @@ use pdl_check::Accepted;
 use pdl_image::Image;
 use pdl_kit::NoMemory;
 use pdl_machine_run::Run;
+use pdl_word::Word;
 use std::alloc::Global;
 use std::marker::Model;
 
@@ -131,7 +132,7 @@ impl<'a> Machine<'a> {
     }
 
     /// The value of the output port at place i in the last cycle, 0 before the first.
-    pub fn port(&self, i: usize) -> u64
+    pub fn port(&self, i: usize) -> Word
         requires { i < length self.now.shown }
         ensures { result ≡ slice_index self.now.shown i }
     {

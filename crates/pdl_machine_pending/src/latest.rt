@@ -7,17 +7,18 @@ ghost use Rattle.pdl_machine_pending.specs.View.{pending_view, latest_view};
 
 use crate::pending::Pending;
 use pdl_form::Lock;
+use pdl_word::Word;
 
 /// There is none, its value is still to come, or its value.
 #[derive(Clone, Copy)]
 pub enum Latest {
     Nothing,
     Coming,
-    Known(u64),
+    Known(Word),
 }
 
 /// What the pending writes of threads older than this one say of an address.
-pub fn youngest(pending: &[Pending], thread: u64, address: u64) -> Latest
+pub fn youngest(pending: &[Pending], thread: u64, address: Word) -> Latest
     ensures { latest_view result ≡ machine.youngest
         (map pending_view pending.now) thread address locks.Nothing }
 {
@@ -29,7 +30,7 @@ pub fn youngest(pending: &[Pending], thread: u64, address: u64) -> Latest
 }
 
 // What is found after one more entry.
-fn found_after(entry: &Pending, thread: u64, address: u64, found: Latest) -> Latest
+fn found_after(entry: &Pending, thread: u64, address: Word, found: Latest) -> Latest
     ensures { latest_view result ≡ (if nat_lt entry.now.thread thread
         && (entry.now.address == address) then locks.as_latest entry.now.value else latest_view
         found) }
@@ -41,7 +42,7 @@ fn found_after(entry: &Pending, thread: u64, address: u64, found: Latest) -> Lat
     }
 }
 
-fn as_latest(value: Option<u64>) -> Latest
+fn as_latest(value: Option<Word>) -> Latest
     ensures { latest_view result ≡ locks.as_latest value }
 {
     match value {
@@ -52,7 +53,7 @@ fn as_latest(value: Option<u64>) -> Latest
 
 impl Latest {
     /// The value of a read: that of the pending write, or the array's word where none is known.
-    pub fn value_or(self, word: u64) -> u64
+    pub fn value_or(self, word: Word) -> Word
         ensures { result ≡ locks.value_or (latest_view self) word }
     {
         match self {

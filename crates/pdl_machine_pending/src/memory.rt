@@ -12,13 +12,14 @@ use crate::latest::{Latest, youngest};
 use crate::pending::{Pending, Reserved, Written, append, drop_younger, fill};
 use pdl_form::Lock;
 use pdl_kit::NoMemory;
+use pdl_word::{Word, word_at};
 use std::alloc::Global;
 use std::marker::Model;
 
 /// A memory: its words by their addresses, its lock, and the pending writes, oldest first.
 #[derive(Drop)]
 pub struct Memory {
-    words: Vec<u64>,
+    words: Vec<Word>,
     lock: Lock,
     pending: Vec<Pending>,
 }
@@ -41,7 +42,7 @@ impl Model for Memory {
 
 impl Memory {
     /// A memory with these words and nothing pending, which has room for so many pending writes.
-    pub fn new(alloc: Global, words: &[u64], lock: Lock, room: usize) -> Result<Memory, NoMemory>
+    pub fn new(alloc: Global, words: &[Word], lock: Lock, room: usize) -> Result<Memory, NoMemory>
         ensures words { IfOk result (λ x. x.words ≡ words.now) }
         ensures lock { IfOk result (λ x. x.lock ≡ lock_view lock) }
         ensures pending { IfOk result (λ x. x.pending ≡ []) }
@@ -55,7 +56,7 @@ impl Memory {
     }
 
     // What the pending writes of older threads say of an address.
-    fn older_write(&self, thread: u64, address: u64) -> Latest
+    fn older_write(&self, thread: u64, address: Word) -> Latest
         ensures { latest_view result ≡ machine.youngest self.now.pending thread address
             locks.Nothing }
     {
@@ -63,17 +64,14 @@ impl Memory {
     }
 
     /// The array's word, 0 past its end.
-    pub fn word(&self, address: u64) -> u64
+    pub fn word(&self, address: Word) -> Word
         ensures { result ≡ slice_index self.now.words address }
     {
-        match self.words.as_slice().get(address as usize) {
-            Some(word) => *word,
-            None => 0,
-        }
+        word_at(self.words.as_slice(), address)
     }
 
     /// The word that a thread's read of an address finds.
-    pub fn read(&self, thread: u64, address: u64) -> u64
+    pub fn read(&self, thread: u64, address: Word) -> Word
         ensures { result ≡ locks.value_or
             (machine.youngest self.now.pending thread address locks.Nothing)
             (slice_index self.now.words address) }
@@ -83,7 +81,7 @@ impl Memory {
     }
 
     /// Whether a thread's block on an address is ready: of a location that is reserved for writing, or else for reading.
-    pub fn is_ready(&self, thread: u64, address: u64, writes: bool) -> bool
+    pub fn is_ready(&self, thread: u64, address: Word, writes: bool) -> bool
         ensures { result ≡ (if writes then locks.write_ready self.now.lock
             (machine.youngest self.now.pending thread address locks.Nothing) else locks.read_ready
             self.now.lock (machine.youngest self.now.pending thread address locks.Nothing)) }
@@ -159,13 +157,12 @@ impl Memory {
     }
 
     /// Sets the array's word at an address, where there is one, as an advisory write does.
-    pub fn set_word(&mut self, address: u64, word: u64)
+    pub fn set_word(&mut self, address: Word, word: Word)
         ensures { self.new ≡ record self.old
             { words = slice_set self.old.words address word } }
     {
-        let address = address as usize;
-        if address < self.words.len() {
-            self.words[address] = word;
+        if address < self.words.len() as Word {
+            self.words[address as usize] = word;
         }
     }
 

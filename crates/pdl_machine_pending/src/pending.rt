@@ -3,13 +3,15 @@ ghost use Rattle.std.specs.Prelude.{◌≡◌, ◌≤◌, ◌+◌, ◌++◌, ◌
 ghost use Rattle.pdl_semantics.specs.Cycle as cycle;
 ghost use Rattle.pdl_machine_pending.specs.View.{pending_view, reserved_view, written_view};
 
+use pdl_word::Word;
+
 /// A pending write: the numbers of its thread and of the variable by which that reserved it, its address, and its value or none.
 #[derive(Clone, Copy)]
 pub struct Pending {
     pub thread: u64,
     pub var: usize,
-    pub address: u64,
-    pub value: Option<u64>,
+    pub address: Word,
+    pub value: Option<Word>,
 }
 
 /// A reservation for writing: the numbers of its memory, of the variable of its address and of the word.
@@ -17,7 +19,7 @@ pub struct Pending {
 pub struct Reserved {
     pub mem: usize,
     pub var: usize,
-    pub address: u64,
+    pub address: Word,
 }
 
 /// A value that is written through the reservation of a memory by this variable.
@@ -25,7 +27,7 @@ pub struct Reserved {
 pub struct Written {
     pub mem: usize,
     pub var: usize,
-    pub value: u64,
+    pub value: Word,
 }
 
 // Appends an entry where the reservation is of memory m.
@@ -62,7 +64,7 @@ pub fn append(pending: &mut Vec<Pending>, m: usize, thread: u64, reserves: &[Res
 }
 
 // The entry, with the value where it is the thread's, reserved by this variable.
-fn with_value(entry: Pending, thread: u64, var: usize, value: u64) -> Pending
+fn with_value(entry: Pending, thread: u64, var: usize, value: Word) -> Pending
     ensures { pending_view result ∷ []
         ≡ cycle.with_value_of thread var value (pending_view entry ∷ []) }
 {
@@ -79,7 +81,7 @@ fn with_value(entry: Pending, thread: u64, var: usize, value: u64) -> Pending
 }
 
 // Puts a value into the entries of a thread that this variable reserved.
-fn put_value(pending: &mut [Pending], thread: u64, var: usize, value: u64)
+fn put_value(pending: &mut [Pending], thread: u64, var: usize, value: Word)
     ensures { map pending_view pending.new
         ≡ cycle.with_value_of thread var value (map pending_view pending.old) }
 {

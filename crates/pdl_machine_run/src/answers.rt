@@ -12,6 +12,7 @@ use crate::beside::{Beside, Request, request_of};
 use crate::stage::{Awaited, KeptWord, ThreadSlot};
 use crate::words::word;
 use pdl_form::{FlatMem, FlatPipe};
+use pdl_word::Word;
 
 // The first n of these, or all where there are fewer.
 fn front(mems: &[FlatMem], n: usize) -> &[FlatMem]
@@ -46,7 +47,7 @@ pub fn is_answered(pipe: &FlatPipe, replies: &[bool], m: usize) -> bool
 }
 
 // The answer that a thread's request of memory m has in this cycle.
-fn answer(pipe: &FlatPipe, beside: &Beside, replies: &[bool], thread: u64, m: usize) -> Option<u64>
+fn answer(pipe: &FlatPipe, beside: &Beside, replies: &[bool], thread: u64, m: usize) -> Option<Word>
     ensures { result ≡ machine.answer_for (form pipe.now).pipe (outside beside.now) replies.now
         thread m }
 {

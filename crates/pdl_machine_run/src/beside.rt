@@ -5,13 +5,14 @@ ghost use Rattle.pdl_machine_run.specs.View.{request_view, order_views};
 ghost use Rattle.pdl_machine_run.specs.Outside.{outside};
 
 use pdl_machine_pending::Memory;
+use pdl_word::Word;
 
 /// Whether a request of a delayed memory is outstanding: none, one with its owner and its address, or an orphan, whose owner was removed.
 #[derive(Clone, Copy)]
 pub enum Request {
     NoRequest,
-    Owned { owner: u64, address: u64 },
-    Orphan { address: u64 },
+    Owned { owner: u64, address: Word },
+    Orphan { address: Word },
 }
 
 /// The branches taken by the threads inside a fork, oldest first; true is the first branch.

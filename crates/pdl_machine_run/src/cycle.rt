@@ -29,6 +29,7 @@ use crate::stage::{Stage, ThreadSlot};
 use crate::step::step_memories;
 use pdl_form::FlatPipe;
 use pdl_machine_pending::Memory;
+use pdl_word::Word;
 
 // What the threads that move do to the memories, whose commits are shown: writes of advisory memories come last.
 fn change_memories(
@@ -36,7 +37,7 @@ fn change_memories(
     twice: &[bool],
     stages: &[Stage],
     squasher: Option<u64>,
-    shown: &mut Vec<u64>,
+    shown: &mut Vec<Word>,
 )
     requires step { AllCanStep 0 (acts_of 0 stages.now) memories.old }
     requires told { length twice.now ≡ length memories.old }
@@ -58,7 +59,7 @@ fn step_beside(
     stages: &[Stage],
     squasher: Option<u64>,
     beside: &mut Beside,
-    shown: &mut Vec<u64>,
+    shown: &mut Vec<Word>,
 )
     requires memories { AllCanStep 0 (acts_of 0 stages.now) beside.old.memories.items }
     requires count { length beside.old.orders.items ≡ length stages.now }
@@ -138,7 +139,7 @@ pub fn cycle(
     stages: &mut [Stage],
     way: &mut ThreadSlot,
     next: u64,
-    shown: &mut Vec<u64>,
+    shown: &mut Vec<Word>,
 ) -> bool
     requires run { IsRunnable (form pipe.now) }
     requires ready { AreReady (form pipe.now) stages.old }

@@ -13,12 +13,13 @@ use crate::stage::{KeptWord, ThreadSlot};
 use pdl_form::{FlatPipe, FlatStmt, Op};
 use pdl_form_values::are_taken;
 use pdl_machine_pending::{Reserved, Written};
+use pdl_word::Word;
 
 /// A block: the number of its memory, its address, and whether the location is reserved for writing.
 #[derive(Clone, Copy)]
 pub struct Blocked {
     pub mem: usize,
-    pub address: u64,
+    pub address: Word,
     pub writes: bool,
 }
 
@@ -27,22 +28,22 @@ pub struct Blocked {
 pub struct Ask {
     pub mem: usize,
     pub var: usize,
-    pub address: u64,
+    pub address: Word,
 }
 
 /// A write of an advisory memory: the number of that, the address and the value.
 #[derive(Clone, Copy)]
 pub struct Advised {
     pub mem: usize,
-    pub address: u64,
-    pub value: u64,
+    pub address: Word,
+    pub value: Word,
 }
 
 /// What the statements of a stage on its thread's path have done so far: its values and its advised ones, its guess and what it holds; the blocks, the reservations, the writes, the memories whose write reservation was released, the delayed reads, and the writes of advisory memories; whether there was a barrier, the arguments of the thread that it called, if it did, and whether a verify failed.
 pub struct Deeds {
-    pub values: Vec<u64>,
+    pub values: Vec<Word>,
     pub advice: Vec<KeptWord>,
-    pub guess: Vec<u64>,
+    pub guess: Vec<Word>,
     pub held: Vec<LocationNumbers>,
     pub blocks: Vec<Blocked>,
     pub reserves: Vec<Reserved>,
@@ -52,12 +53,12 @@ pub struct Deeds {
     pub advises: Vec<Advised>,
     pub barrier: bool,
     pub called: bool,
-    pub args: Vec<u64>,
+    pub args: Vec<Word>,
     pub fails: bool,
     // Room for the arguments of a verify or of an update.
-    pub verified: Vec<u64>,
+    pub verified: Vec<Word>,
     // Room for the values together with the advised ones.
-    pub whole: Vec<u64>,
+    pub whole: Vec<Word>,
 }
 
 // As the derive would, but by a call of its owners: docs/DECISIONS.md says why.
@@ -85,7 +86,7 @@ impl Drop for Deeds {
 }
 
 /// Copies words into a vector in place of what it held.
-pub fn copy_words(from: &[u64], to: &mut Vec<u64>)
+pub fn copy_words(from: &[Word], to: &mut Vec<Word>)
     requires { length from.now ≤ vec_capacity to.old }
     ensures items { to.new.items ≡ from.now }
     ensures capacity { vec_capacity to.new ≡ vec_capacity to.old }
@@ -97,7 +98,7 @@ pub fn copy_words(from: &[u64], to: &mut Vec<u64>)
 }
 
 /// Sets a variable, if there is one of this number.
-pub fn set_variable(values: &mut [u64], x: usize, word: u64)
+pub fn set_variable(values: &mut [Word], x: usize, word: Word)
     ensures { values.new ≡ slice_set values.old x word }
 {
     if x < values.len() {
@@ -119,7 +120,7 @@ fn copy_kept(from: &[KeptWord], to: &mut Vec<KeptWord>)
 }
 
 // Puts words into their variables, as answers of delayed reads.
-fn put_kept(kept: &[KeptWord], values: &mut [u64])
+fn put_kept(kept: &[KeptWord], values: &mut [Word])
     ensures { values.new ≡ machine.with_kept (map kept_view kept.now) values.old }
 {
     for word in kept {
@@ -146,7 +147,7 @@ fn hold_after(op: &Op, held: &mut Vec<LocationNumbers>)
 }
 
 // What is held after these statements, of which those on the path in the stages before one count.
-fn hold_before(stmts: &[FlatStmt], stage: usize, path: &[u64], held: &mut Vec<LocationNumbers>)
+fn hold_before(stmts: &[FlatStmt], stage: usize, path: &[Word], held: &mut Vec<LocationNumbers>)
     requires { vec_len held.old + length stmts.now ≤ vec_capacity held.old }
     ensures held { map place_view held.new.items
         ≡ machine.held_before stage path.now (stmts_view stmts.now)

@@ -16,6 +16,7 @@ use crate::step::mover;
 use crate::ways::next_stage;
 use pdl_form::FlatPipe;
 use pdl_form_values::fill;
+use pdl_word::Word;
 use std::mem::swap;
 
 // A thread awaits the answers of these delayed reads, and of no others.
@@ -220,7 +221,7 @@ pub fn remove_all(squasher: Option<u64>, stages: &mut [Stage])
 }
 
 /// A new thread with these arguments stands in a place.
-pub fn begin(place: &mut ThreadSlot, thread: u64, args: &[u64])
+pub fn begin(place: &mut ThreadSlot, thread: u64, args: &[Word])
     requires few { length args.now ≤ length place.old.values.items }
     ensures thread { (p : Pipe) → p.vars ≡ length place.old.values.items →
         thread_in place.new ≡ stated.born_thread p thread (Some args.now) }

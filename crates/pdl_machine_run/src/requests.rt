@@ -16,6 +16,7 @@ use crate::moves::is_kept;
 use crate::stage::Stage;
 use crate::step::mover;
 use pdl_form::{FlatMem, FlatPipe};
+use pdl_word::Word;
 
 // The request of memory m after these delayed reads of a thread: that of the first that asks it, else the one before.
 fn asked_of(m: usize, thread: u64, asks: &[Ask], old: Request) -> Request
@@ -109,7 +110,7 @@ pub fn step_requests(
 }
 
 // The address for which these delayed reads ask memory m first, else this.
-fn address_of(m: usize, asks: &[Ask], rest: Option<u64>) -> Option<u64>
+fn address_of(m: usize, asks: &[Ask], rest: Option<Word>) -> Option<Word>
     ensures { result ≡ stated.address_of m (map ask_view asks.now) rest }
 {
     for ask in asks {
@@ -121,7 +122,7 @@ fn address_of(m: usize, asks: &[Ask], rest: Option<u64>) -> Option<u64>
 }
 
 // The same of the thread that moves out of a stage, if one does.
-fn address_in_stage(m: usize, stage: &Stage, rest: Option<u64>) -> Option<u64>
+fn address_in_stage(m: usize, stage: &Stage, rest: Option<Word>) -> Option<Word>
     ensures { (k : ℕ) → result ≡ address_by m (act_of k (mover_of stage.now) stage.now) rest }
 {
     match mover(stage) {
@@ -131,7 +132,7 @@ fn address_in_stage(m: usize, stage: &Stage, rest: Option<u64>) -> Option<u64>
 }
 
 // The address for which a thread that moves asks memory m, if one does.
-fn address_asked(m: usize, stages: &[Stage]) -> Option<u64>
+fn address_asked(m: usize, stages: &[Stage]) -> Option<Word>
     ensures { result ≡ address_by m (acts_of 0 stages.now) None }
 {
     let mut address = None;
@@ -144,7 +145,7 @@ fn address_asked(m: usize, stages: &[Stage]) -> Option<u64>
 }
 
 // Shows of a delayed memory whether it is asked, and the address, 0 where it isn't.
-fn show_request(mem: &FlatMem, address: Option<u64>, shown: &mut Vec<u64>)
+fn show_request(mem: &FlatMem, address: Option<Word>, shown: &mut Vec<Word>)
     requires room { vec_len shown.old + 2 ≤ vec_capacity shown.old }
     ensures shown { shown.new.items
         ≡ shown.old.items ++ (if is_delayed (mem_view mem.now).kind then request_values address else []) }
@@ -152,13 +153,13 @@ fn show_request(mem: &FlatMem, address: Option<u64>, shown: &mut Vec<u64>)
     ensures capacity { vec_capacity shown.new ≡ vec_capacity shown.old }
 {
     if mem.kind.is_delayed() {
-        shown.push_reserved(u64::from(address.is_some()));
+        shown.push_reserved(Word::from(address.is_some()));
         shown.push_reserved(address.unwrap_or(0));
     }
 }
 
 /// Shows the requests of all delayed memories.
-pub fn show_requests(mems: &[FlatMem], stages: &[Stage], shown: &mut Vec<u64>)
+pub fn show_requests(mems: &[FlatMem], stages: &[Stage], shown: &mut Vec<Word>)
     requires room { vec_len shown.old + 2 * length mems.now ≤ vec_capacity shown.old }
     ensures shown { shown.new.items
         ≡ shown.old.items ++ requests_shown 0 (acts_of 0 stages.now) (mems_view mems.now) }

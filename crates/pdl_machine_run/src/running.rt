@@ -17,6 +17,7 @@ use crate::stage::{Stage, ThreadSlot};
 use pdl_form::FlatPipe;
 use pdl_image::Image;
 use pdl_kit::NoMemory;
+use pdl_word::Word;
 use std::alloc::Global;
 
 /// A run of a pipe: its threads by their stages, what stands beside these, and what its ports showed in the last cycle.
@@ -26,7 +27,7 @@ pub struct Run {
     // Room for the new thread on its way into stage 0.
     way: ThreadSlot,
     next: u64,
-    shown: Vec<u64>,
+    shown: Vec<Word>,
     waited: bool,
 }
 
@@ -108,7 +109,7 @@ impl Run {
     }
 
     /// Lends what the ports showed in the last cycle, zeros before the first.
-    pub fn shown(&self) -> &[u64]
+    pub fn shown(&self) -> &[Word]
         ensures { result.now ≡ self.now.shown.items }
     {
         self.shown.as_slice()

@@ -25,10 +25,11 @@ use pdl_form_values::all_twice;
 use pdl_image::Image;
 use pdl_kit::NoMemory;
 use pdl_machine_pending::Memory;
+use pdl_word::Word;
 use std::alloc::Global;
 
 /// So many zeros, with room for more.
-pub fn zeros(alloc: Global, count: usize, room: usize) -> Result<Vec<u64>, NoMemory>
+pub fn zeros(alloc: Global, count: usize, room: usize) -> Result<Vec<Word>, NoMemory>
     ensures items { IfOk result (λ v. v.items ≡ replicate count 0) }
     ensures room { IfOk result (λ v. room ≤ vec_capacity v) }
 {
@@ -51,7 +52,7 @@ fn size(lock: Lock) -> usize
 }
 
 // A memory with these words, and room for what may be pending and two reservations more.
-fn memory(alloc: Global, words: &[u64], lock: Lock) -> Result<Memory, NoMemory>
+fn memory(alloc: Global, words: &[Word], lock: Lock) -> Result<Memory, NoMemory>
     ensures { IfOk result (λ x. IsFirst (lock_view lock) words.now x) }
 {
     Memory::new(alloc, words, lock, size(lock) + 2)

@@ -9,21 +9,22 @@ use crate::stage::Stage;
 use crate::step::mover;
 use crate::ways::next_stage;
 use pdl_form::FlatPipe;
+use pdl_word::Word;
 
 // Shows of a stage whether it holds a thread, and whether that moves.
-fn show_stage(stage: &Stage, shown: &mut Vec<u64>)
+fn show_stage(stage: &Stage, shown: &mut Vec<Word>)
     requires room { vec_len shown.old + 2 ≤ vec_capacity shown.old }
     ensures shown { shown.new.items
         ≡ shown.old.items ++ stage_values (is_some stage.now.slot.number ∷ [])
         (stage.now.moves ∷ []) }
     ensures capacity { vec_capacity shown.new ≡ vec_capacity shown.old }
 {
-    shown.push_reserved(u64::from(stage.slot.number.is_some()));
-    shown.push_reserved(u64::from(stage.moves));
+    shown.push_reserved(Word::from(stage.slot.number.is_some()));
+    shown.push_reserved(Word::from(stage.moves));
 }
 
 /// Shows the same of all stages.
-pub fn show_stages(stages: &[Stage], shown: &mut Vec<u64>)
+pub fn show_stages(stages: &[Stage], shown: &mut Vec<Word>)
     requires room { vec_len shown.old + 2 * length stages.now ≤ vec_capacity shown.old }
     ensures shown { shown.new.items
         ≡ shown.old.items ++ stage_values (are_held stages.now) (are_moving stages.now) }
@@ -54,13 +55,13 @@ fn has_ended(pipe: &FlatPipe, stages: &[Stage]) -> bool
 }
 
 /// Shows whether a thread ended, and whether there was a squash.
-pub fn show_end(pipe: &FlatPipe, stages: &[Stage], squashed: bool, shown: &mut Vec<u64>)
+pub fn show_end(pipe: &FlatPipe, stages: &[Stage], squashed: bool, shown: &mut Vec<Word>)
     requires room { vec_len shown.old + 2 ≤ vec_capacity shown.old }
     ensures shown { shown.new.items
         ≡ shown.old.items ++ bit (one_ends (form pipe.now).pipe (acts_of 0 stages.now))
         ∷ bit squashed ∷ [] }
     ensures capacity { vec_capacity shown.new ≡ vec_capacity shown.old }
 {
-    shown.push_reserved(u64::from(has_ended(pipe, stages)));
-    shown.push_reserved(u64::from(squashed));
+    shown.push_reserved(Word::from(has_ended(pipe, stages)));
+    shown.push_reserved(Word::from(squashed));
 }

@@ -1,5 +1,6 @@
 // Stages and the threads in them.
 use crate::deeds::Deeds;
+use pdl_word::Word;
 
 /// A read that awaits its answer: the numbers of its memory and of the variable that it binds.
 #[derive(Clone, Copy)]
@@ -12,16 +13,16 @@ pub struct Awaited {
 #[derive(Clone, Copy)]
 pub struct KeptWord {
     pub var: usize,
-    pub word: u64,
+    pub word: Word,
 }
 
 /// A place for a thread: its number or none, its values and its advised ones, the arguments of its guess, the reads that it awaits, and its kept answers.
 #[derive(Drop)]
 pub struct ThreadSlot {
     pub number: Option<u64>,
-    pub values: Vec<u64>,
+    pub values: Vec<Word>,
     pub advice: Vec<KeptWord>,
-    pub guess: Vec<u64>,
+    pub guess: Vec<Word>,
     pub awaits: Vec<Awaited>,
     pub kept: Vec<KeptWord>,
 }

@@ -9,6 +9,7 @@ ghost use Rattle.pdl_machine_run.specs.Ready.{CanStep, AllCanStep};
 
 use crate::stage::Stage;
 use pdl_machine_pending::{Memory, Pending};
+use pdl_word::Word;
 
 /// The number of the thread that moves out of a stage, if one does.
 pub fn mover(stage: &Stage) -> Option<u64>
@@ -225,7 +226,7 @@ fn step_memory(memory: &mut Memory, m: usize, stages: &[Stage], squasher: Option
 }
 
 // Shows three values.
-fn show_three(a: u64, b: u64, c: u64, shown: &mut Vec<u64>)
+fn show_three(a: Word, b: Word, c: Word, shown: &mut Vec<Word>)
     requires room { vec_len shown.old + 3 ≤ vec_capacity shown.old }
     ensures shown { shown.new.items ≡ shown.old.items ++ a ∷ b ∷ c ∷ [] }
     ensures capacity { vec_capacity shown.new ≡ vec_capacity shown.old }
@@ -236,7 +237,7 @@ fn show_three(a: u64, b: u64, c: u64, shown: &mut Vec<u64>)
 }
 
 // Shows a pending write that is released, if one is: whether there is one, its address and its value.
-fn show_one(entry: Option<Pending>, shown: &mut Vec<u64>)
+fn show_one(entry: Option<Pending>, shown: &mut Vec<Word>)
     requires room { vec_len shown.old + 3 ≤ vec_capacity shown.old }
     ensures shown { shown.new.items
         ≡ shown.old.items ++ shown_values (stated.port_writes (entries_of (entry_view entry))) }
@@ -250,7 +251,7 @@ fn show_one(entry: Option<Pending>, shown: &mut Vec<u64>)
 
 // Shows the commits of a memory with a lock, of the second one where the memory is reserved twice.
 #[tactic(auto, using(crate::proofs::TakenOut::first_shown, crate::proofs::TakenOut::second_shown))]
-fn show_commits(memory: &Memory, twice: bool, taken: Taken, shown: &mut Vec<u64>)
+fn show_commits(memory: &Memory, twice: bool, taken: Taken, shown: &mut Vec<Word>)
     requires room { vec_len shown.old + 6 ≤ vec_capacity shown.old }
     ensures shown { shown.new.items ≡ shown.old.items
         ++ commit_values memory.now.lock twice (stated.port_writes (taken_view taken)) }
@@ -273,7 +274,7 @@ pub fn step_memories(
     twice: &[bool],
     stages: &[Stage],
     squasher: Option<u64>,
-    shown: &mut Vec<u64>,
+    shown: &mut Vec<Word>,
 )
     requires step { AllCanStep 0 (acts_of 0 stages.now) memories.old }
     requires told { length twice.now ≡ length memories.old }

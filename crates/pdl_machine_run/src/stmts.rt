@@ -19,10 +19,11 @@ use crate::words::read;
 use pdl_form::{FlatExpr, FlatPipe, FlatStmt, Op};
 use pdl_form_values::{are_taken, value_of, values_of, variable};
 use pdl_machine_pending::{Memory, Reserved, Written};
+use pdl_word::Word;
 use std::mem::swap;
 
 // A variable is bound to the value of an expression.
-fn bind(x: usize, e: &FlatExpr, values: &mut [u64])
+fn bind(x: usize, e: &FlatExpr, values: &mut [Word])
     requires safe { IsSafe (expr_view e.now) values.old }
     ensures { values.new ≡ slice_set values.old x (spec_value_of (expr_view e.now) values.old) }
 {
@@ -31,7 +32,7 @@ fn bind(x: usize, e: &FlatExpr, values: &mut [u64])
 }
 
 // A variable is bound to the word that a read finds.
-fn read_word(memories: &[Memory], thread: u64, x: usize, m: usize, a: usize, values: &mut [u64])
+fn read_word(memories: &[Memory], thread: u64, x: usize, m: usize, a: usize, values: &mut [Word])
     ensures { values.new ≡ slice_set values.old x
         (word_of memories.now thread m (slice_index values.old a)) }
 {
@@ -185,7 +186,7 @@ fn guess(args: &[FlatExpr], deeds: &mut Deeds)
 }
 
 // Whether these arguments are the same.
-fn same_args(these: &[u64], those: &[u64]) -> bool
+fn same_args(these: &[Word], those: &[Word]) -> bool
     ensures { result ≡ spec_same_args these.now those.now }
 {
     if these.len() != those.len() {

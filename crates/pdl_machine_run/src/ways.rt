@@ -9,6 +9,7 @@ ghost use Rattle.pdl_machine_run.specs.View.{deeds_view};
 use crate::deeds::Deeds;
 use pdl_form::{FlatPipe, FlatStage, NO_BRANCHES, Next};
 use pdl_form_values::variable;
+use pdl_word::Word;
 
 /// The stage of a number, past the end one that leads out of the pipe.
 pub fn stage_at(pipe: &FlatPipe, k: usize) -> FlatStage
@@ -25,7 +26,7 @@ pub fn stage_at(pipe: &FlatPipe, k: usize) -> FlatStage
 }
 
 // Where a thread with these values goes, none where it ends.
-fn goes_to(next: Next, values: &[u64]) -> Option<usize>
+fn goes_to(next: Next, values: &[Word]) -> Option<usize>
     ensures { result ≡ stages.goes_to (next_view next) values.now }
 {
     match next {

@@ -88,7 +88,7 @@ inputs_well c (p ∷ ps) w i h =
     let g = w zero p refl in
     input_step p.dir p.width (filter_map port_input ps) (record { low = g.low; high = g.high }) (inputs_well c ps (λ k q e. w (suc k) q e)) i h
 
--- each input of a well formed circuit has 1 to 64 bits
+-- each input of a well formed circuit has 1 to widest bits
 pub input_well : (c : Circuit) → IsWell c → (i : ℕ) → i < length (inputs_of c) → IsWidth (get_or (inputs_of c) i 0)
 input_well c w i h = inputs_well c c.ports w.ports i h
 
@@ -111,7 +111,7 @@ bounded_at c s w t (suc n) l (CellNet k) h =
     (cell_bounded c s (IsThereAt c n) (signal c) w t (bounded_at c s w t n (omega arith)) (cell_at c k) (subst Q e (fits_cell c w.cells k i))))
     (cases_lt k n)
 
--- each net of a well formed circuit has 1 to 64 bits and a value that fits them, in each state that suits it
+-- each net of a well formed circuit has 1 to widest bits and a value that fits them, in each state that suits it
 pub bounded : (c : Circuit) (s : State) → IsWell c → Suits c s → (x : Net) → IsThere c x → IsBounded s (signal c x)
 unfolding IsThere
 bounded c s w t x h = bounded_at c s w t (length c.cells) (omega arith) x h

@@ -16,6 +16,7 @@ use Rattle.pdl_net.specs.Meaning.{look, cell_signal, signals_from, signals, sign
 use Rattle.pdl_net.specs.Well.{FitsIn, Fits, AllFit, IsDriven, IsWellPort, IsWellReg, IsWellWrite, IsWellArray, IsWell}
 use Rattle.pdl_net.specs.Growth.{Extends, ExtendsPorts, ExtendsArrays, Grows, KeepsNets}
 use Rattle.pdl_net.proofs.Signals.{cell_signal_same, look_grows, there_grows, signals_from_grows, length_signals}
+use Rattle.pdl_word.specs.Words.{widest}
 
 -- a cell fits where its nets are there and mean the same
 pub fits_same : (old new : Circuit) (There There' : Net → Type 0) (at at' : Net → Signal) → Grows old new
@@ -30,7 +31,7 @@ fits_same old new There There' at at' w i h (Slice a high low) f = (i a f.0, f.1
 fits_same old new There There' at at' w i h (Cat a b) f =
     (i a f.0, i b f.1, let e = ap (λ s. s.width) (h a f.0) in let d = ap (λ s. s.width) (h b f.1) in omega (arith, e, d, f.2))
 fits_same old new There There' at at' w i h (Rep k a) f =
-    (i a f.0, f.1, let e = ap (λ s. s.width) (h a f.0) in let P : ℕ → Type 0 = λ n. k * n ≤ 64 in subst P (sym e) f.2)
+    (i a f.0, f.1, let e = ap (λ s. s.width) (h a f.0) in let P : ℕ → Type 0 = λ n. k * n ≤ widest in subst P (sym e) f.2)
 fits_same old new There There' at at' w i h (Read m a) f = ((w.arrays m f.0).0, i a f.1, ap (λ s. 2 ^ s.width) (h a f.1) ∙ f.2 ∙ sym ((w.arrays m f.0).2))
 
 -- cells that fit do so in a circuit that has grown

@@ -1,11 +1,12 @@
--- What a delayed memory commits, first and second in a cycle, fits its words.
-use Rattle.std.proofs.Common.{◌≡◌, ◌≢◌, ℕ, suc, ◌+◌, ◌^◌, ◌<◌, Bool, true, false, cond, if◌then◌else◌, List, [], ◌∷◌, ◌++◌, length, map, get_or, filter_map, flat_map, Contains, Some, codes, decimal, bytes_eq, refl, sym, ap, ◌∙◌, subst, arith, append_assoc, length-append}
+-- What a memory commits, first and second in a cycle: a value fits a delayed memory's words, and an address has at most 16 bits.
+use Rattle.std.proofs.Common.{◌≡◌, ◌≢◌, ℕ, suc, ◌+◌, ◌^◌, ◌<◌, ◌≤◌, Bool, true, false, cond, if◌then◌else◌, List, [], ◌∷◌, ◌++◌, length, map, get_or, filter_map, flat_map, Contains, Some, codes, decimal, bytes_eq, refl, sym, ap, ◌∙◌, subst, arith, append_assoc, length-append}
 use Rattle.std.specs.List.{cons_option, position_from, range_with_len, slice_get}
 use Rattle.std.proofs.lemmas.List.{get_or_at}
+use Rattle.std.proofs.Math.Pow.{pow_mono}
 use Rattle.std.proofs.lemmas.Nat.{pow_pos}
 use Rattle.std.proofs.lemmas.Slice.Eq.{bytes_eq-Decides}
 use Rattle.pdl_word.specs.Each.{Each}
-use Rattle.pdl_word.proofs.Each.{each_append, each_flat, each_unmapped}
+use Rattle.pdl_word.proofs.Each.{each_append, each_flat, each_from_all, each_unmapped, each_weaker}
 use Rattle.pdl_net.specs.declared.Dir.{Dir}
 use Rattle.pdl_net.specs.declared.Dir.TheVariants.{In, Out}
 use Rattle.pdl_net.specs.declared.Port.{Port}
@@ -14,26 +15,26 @@ use Rattle.pdl_net.specs.Circuit.{Circuit, State, Output, circuit_of, outputs_of
 use Rattle.pdl_net.specs.Well.{IsWell, IsWellPort, IsDriven, Suits}
 use Rattle.pdl_net.specs.Cycle.{net_value, output_values}
 use Rattle.pdl_net.specs.Run.{port_value, value_at}
-use Rattle.pdl_net.specs.Pipe.{Head, head_of, is_input, output, PortMem, reply_ports, stage_ports, first_ports, second_ports, commit_ports, request_ports, IsPipe, IsWellFormed}
+use Rattle.pdl_net.specs.Pipe.{Head, head_of, is_input, output, PortMem, reply_ports, stage_ports, first_ports, second_ports, commit_ports, request_ports, IsAddress, IsPipe, IsWellFormed}
 use Rattle.pdl_net.proofs.Bounds.{bounded}
 
--- an output of this name has this width
+-- an output of this name has at most this width
 abbrev Shows : List ℕ → ℕ → Head → Type 0
-Shows name w h = h.input ≡ false → h.name ≡ name → h.width ≡ w
+Shows name w h = h.input ≡ false → h.name ≡ name → h.width ≤ w
 
--- a locked memory's words have this width, where a port that shows what it commits has this name
+-- a locked memory's words have at most this width, where a port that shows what it commits has this name
 abbrev WordsShow : List ℕ → ℕ → PortMem → Type 0
-WordsShow name w l = (codes "cd_" ++ l.name ≡ name → l.width ≡ w) × (codes "cd2_" ++ l.name ≡ name → l.width ≡ w)
+WordsShow name w l = (codes "cd_" ++ l.name ≡ name → l.width ≤ w) × (codes "cd2_" ++ l.name ≡ name → l.width ≤ w)
 
 -- HEADS
 
--- of a name that begins with `cd`
-module _ (name : List ℕ) (w : ℕ) (first : get_or name 0 0 ≡ 99) (second : get_or name 1 0 ≡ 100) where
+goes_on_apart : (name : List ℕ) (w letter : ℕ) → get_or name 1 0 ≡ letter → (h : Head) → get_or h.name 1 0 ≢ letter → Shows name w h
+goes_on_apart name w letter second h n i e = absurd (n (ap (λ xs. get_or xs 1 0) e ∙ second))
+
+-- of a name that begins with `c`
+module _ (name : List ℕ) (w : ℕ) (first : get_or name 0 0 ≡ 99) where
   begins_apart : (h : Head) → get_or h.name 0 0 ≢ 99 → Shows name w h
   begins_apart h n i e = absurd (n (ap (λ xs. get_or xs 0 0) e ∙ first))
-
-  goes_on_apart : (h : Head) → get_or h.name 1 0 ≢ 100 → Shows name w h
-  goes_on_apart h n i e = absurd (n (ap (λ xs. get_or xs 1 0) e ∙ second))
 
   replies_fit : (ds : List PortMem) → Each (λ d. Each (Shows name w) (reply_ports d)) ds
   replies_fit [] = tt
@@ -46,22 +47,6 @@ module _ (name : List ℕ) (w : ℕ) (first : get_or name 0 0 ≡ 99) (second : 
     stages_fit ks,
   )
 
-  commit_fits : (l : PortMem) → WordsShow name w l → Each (Shows name w) (commit_ports l)
-  commit_fits l f =
-      let P : Bool → Type 0 = λ b. Each (Shows name w) (first_ports l ++ (if b then second_ports l else [])) in
-      let enable = goes_on_apart (output (codes "c_" ++ l.name) 1) (λ e. omega arith) in
-      let addr = goes_on_apart (output (codes "ca_" ++ l.name) l.bits) (λ e. omega arith) in
-      let enable2 = goes_on_apart (output (codes "c2_" ++ l.name) 1) (λ e. omega arith) in
-      let addr2 = goes_on_apart (output (codes "ca2_" ++ l.name) l.bits) (λ e. omega arith) in
-      elim l.twice as P [
-        | true ↦ (enable, (addr, (λ i e. f.0 e, (enable2, (addr2, (λ i e. f.1 e, tt))))))
-        | false ↦ (enable, (addr, (λ i e. f.0 e, tt)))
-      ]
-
-  commits_fit : (ls : List PortMem) → ((l : PortMem) → Contains ls l → WordsShow name w l) → Each (λ l. Each (Shows name w) (commit_ports l)) ls
-  commits_fit [] f = tt
-  commits_fit (l ∷ ls) f = (commit_fits l (f l (0, omega arith, refl)), commits_fit ls (λ m c. f m (suc c.0, omega (arith, c.1), c.2)))
-
   requests_fit : (ds : List PortMem) → Each (λ d. Each (Shows name w) (request_ports d)) ds
   requests_fit [] = tt
   requests_fit (d ∷ ds) = (
@@ -69,7 +54,7 @@ module _ (name : List ℕ) (w : ℕ) (first : get_or name 0 0 ≡ 99) (second : 
     requests_fit ds,
   )
 
-  heads_fit : (n : Netlist) (p : IsPipe n) → ((l : PortMem) → Contains p.locked l → WordsShow name w l)
+  heads_fit : (n : Netlist) (p : IsPipe n) → Each (λ l. Each (Shows name w) (commit_ports l)) p.locked
       → Each (λ q. Shows name w (head_of q)) n.ports
   heads_fit n p f =
       let P = Shows name w in
@@ -84,9 +69,41 @@ module _ (name : List ℕ) (w : ℕ) (first : get_or name 0 0 ≡ 99) (second : 
       (each_append P (replies ++ stages) commits
       (each_append P replies stages (each_flat P reply_ports p.delayed (replies_fit p.delayed))
       (each_flat P stage_ports (range_with_len 0 p.stages) (stages_fit (range_with_len 0 p.stages))))
-      (each_flat P commit_ports p.locked (commits_fit p.locked f)))
+      (each_flat P commit_ports p.locked f))
       (each_flat P request_ports p.delayed (requests_fit p.delayed)))
       (begins_apart (output (codes "ended") 1) (λ e. omega arith), (begins_apart (output (codes "squash") 1) (λ e. omega arith), tt))))
+
+-- of a name that begins with `cd`
+module _ (name : List ℕ) (w : ℕ) (second : get_or name 1 0 ≡ 100) where
+  value_fits : (l : PortMem) → WordsShow name w l → Each (Shows name w) (commit_ports l)
+  value_fits l f =
+      let P : Bool → Type 0 = λ b. Each (Shows name w) (first_ports l ++ (if b then second_ports l else [])) in
+      let enable = goes_on_apart name w 100 second (output (codes "c_" ++ l.name) 1) (λ e. omega arith) in
+      let addr = goes_on_apart name w 100 second (output (codes "ca_" ++ l.name) l.bits) (λ e. omega arith) in
+      let enable2 = goes_on_apart name w 100 second (output (codes "c2_" ++ l.name) 1) (λ e. omega arith) in
+      let addr2 = goes_on_apart name w 100 second (output (codes "ca2_" ++ l.name) l.bits) (λ e. omega arith) in
+      elim l.twice as P [
+        | true ↦ (enable, (addr, (λ i e. f.0 e, (enable2, (addr2, (λ i e. f.1 e, tt))))))
+        | false ↦ (enable, (addr, (λ i e. f.0 e, tt)))
+      ]
+
+  values_fit : (ls : List PortMem) → ((l : PortMem) → Contains ls l → WordsShow name w l) → Each (λ l. Each (Shows name w) (commit_ports l)) ls
+  values_fit [] f = tt
+  values_fit (l ∷ ls) f = (value_fits l (f l (0, omega arith, refl)), values_fit ls (λ m c. f m (suc c.0, omega (arith, c.1), c.2)))
+
+-- of a name that begins with `ca`
+module _ (name : List ℕ) (w : ℕ) (second : get_or name 1 0 ≡ 97) where
+  address_fits : (l : PortMem) → l.bits ≤ w → Each (Shows name w) (commit_ports l)
+  address_fits l f =
+      let P : Bool → Type 0 = λ b. Each (Shows name w) (first_ports l ++ (if b then second_ports l else [])) in
+      let enable = goes_on_apart name w 97 second (output (codes "c_" ++ l.name) 1) (λ e. omega arith) in
+      let value = goes_on_apart name w 97 second (output (codes "cd_" ++ l.name) l.width) (λ e. omega arith) in
+      let enable2 = goes_on_apart name w 97 second (output (codes "c2_" ++ l.name) 1) (λ e. omega arith) in
+      let value2 = goes_on_apart name w 97 second (output (codes "cd2_" ++ l.name) l.width) (λ e. omega arith) in
+      elim l.twice as P [
+        | true ↦ (enable, (λ i e. f, (value, (enable2, (λ i e. f, (value2, tt))))))
+        | false ↦ (enable, (λ i e. f, (value, tt)))
+      ]
 
 -- NAMES
 
@@ -113,8 +130,13 @@ module _ (c : Circuit) (s : State) (w : IsWell c) (t : Suits c s) (name : List �
         | In ↦ (λ e. rest)
         | Out x ↦ (λ e.
             let g = subst (λ (d : Dir). IsDriven c q.width d) e h.driven in
-            let b = bounded c s w t x g.0 in
-            ((λ same. subst (λ k. net_value c s x < 2 ^ k) (g.1 ∙ f (ap is_input e) same) b.fits), rest))
+            let b = bounded c s w t x g.0 in (
+              (λ same.
+                  let fits : net_value c s x < 2 ^ q.width = subst (λ k. net_value c s x < 2 ^ k) g.1 b.fits in
+                  let more : 2 ^ q.width ≤ 2 ^ bits = pow_mono (f (ap is_input e) same) in
+                  omega (arith, fits, more)),
+              rest,
+            ))
       ]) refl
 
   outputs_fit : (ps : List Port) → ((k : ℕ) (q : Port) → slice_get ps k ≡ Some q → IsWellPort c q)
@@ -140,26 +162,50 @@ module _ (c : Circuit) (s : State) (w : IsWell c) (t : Suits c s) (name : List �
       ((bytes_eq-Decides o.name name).0)
 
 shown_fits : (n : Netlist) (w : IsWellFormed n) (name : List ℕ) (bits : ℕ)
-    → get_or name 0 0 ≡ 99 → get_or name 1 0 ≡ 100 → ((l : PortMem) → Contains w.pipe.locked l → WordsShow name bits l)
+    → get_or name 0 0 ≡ 99 → Each (λ l. Each (Shows name bits) (commit_ports l)) w.pipe.locked
     → (s : State) → Suits (circuit_of n) s → port_value (circuit_of n) (output_values (circuit_of n) s) name < 2 ^ bits
 unfolding output_values
-shown_fits n w name bits f g h s t =
+shown_fits n w name bits f h s t =
     let k = circuit_of n in
     found_fits k s w.well t name bits (outputs_of k) [] 0 refl (pow_pos bits)
-    (outputs_fit k s w.well t name bits n.ports w.well.ports (heads_fit name bits f g n w.pipe h))
+    (outputs_fit k s w.well t name bits n.ports w.well.ports (heads_fit name bits f n w.pipe h))
 
 -- the value that a delayed memory commits, in each state that suits
 pub committed_fits : (n : Netlist) (w : IsWellFormed n) (d : PortMem) → Contains w.pipe.delayed d → (s : State)
     → Suits (circuit_of n) s
     → port_value (circuit_of n) (output_values (circuit_of n) s) (codes "cd_" ++ d.name) < 2 ^ d.width
 committed_fits n w d c s t =
-    shown_fits n w (codes "cd_" ++ d.name) d.width refl refl
-    (λ l k. (λ e. sym (w.pipe.agree d l c k (sym (first_name l.name d.name e))).0, λ e. absurd (names_apart d.name l.name (sym e)))) s t
+    shown_fits n w (codes "cd_" ++ d.name) d.width refl
+    (values_fit (codes "cd_" ++ d.name) d.width refl w.pipe.locked
+    (λ l k. (
+      λ e. let same = (w.pipe.agree d l c k (sym (first_name l.name d.name e))).0 in omega (arith, same),
+      λ e. absurd (names_apart d.name l.name (sym e)),
+    ))) s t
 
 -- and the value that it commits after that
 pub committed2_fits : (n : Netlist) (w : IsWellFormed n) (d : PortMem) → Contains w.pipe.delayed d → (s : State)
     → Suits (circuit_of n) s
     → port_value (circuit_of n) (output_values (circuit_of n) s) (codes "cd2_" ++ d.name) < 2 ^ d.width
 committed2_fits n w d c s t =
-    shown_fits n w (codes "cd2_" ++ d.name) d.width refl refl
-    (λ l k. (λ e. absurd (names_apart l.name d.name e), λ e. sym (w.pipe.agree d l c k (sym (second_name l.name d.name e))).0)) s t
+    shown_fits n w (codes "cd2_" ++ d.name) d.width refl
+    (values_fit (codes "cd2_" ++ d.name) d.width refl w.pipe.locked
+    (λ l k. (
+      λ e. absurd (names_apart l.name d.name e),
+      λ e. let same = (w.pipe.agree d l c k (sym (second_name l.name d.name e))).0 in omega (arith, same),
+    ))) s t
+
+addresses_fit : (n : Netlist) (w : IsWellFormed n) (name : List ℕ) → get_or name 1 0 ≡ 97
+    → Each (λ l. Each (Shows name 16) (commit_ports l)) w.pipe.locked
+addresses_fit n w name second =
+    each_weaker IsAddress (λ l. Each (Shows name 16) (commit_ports l)) (λ l a. address_fits name 16 second l a.high) w.pipe.locked
+    (each_from_all IsAddress w.pipe.locked w.pipe.locked_addresses)
+
+-- the address of a word that a memory commits, in each state that suits
+pub addressed_fits : (n : Netlist) (w : IsWellFormed n) (mem : List ℕ) (s : State) → Suits (circuit_of n) s
+    → port_value (circuit_of n) (output_values (circuit_of n) s) (codes "ca_" ++ mem) < 2 ^ 16
+addressed_fits n w mem s t = shown_fits n w (codes "ca_" ++ mem) 16 refl (addresses_fit n w (codes "ca_" ++ mem) refl) s t
+
+-- and that of a word that it commits after that
+pub addressed2_fits : (n : Netlist) (w : IsWellFormed n) (mem : List ℕ) (s : State) → Suits (circuit_of n) s
+    → port_value (circuit_of n) (output_values (circuit_of n) s) (codes "ca2_" ++ mem) < 2 ^ 16
+addressed2_fits n w mem s t = shown_fits n w (codes "ca2_" ++ mem) 16 refl (addresses_fit n w (codes "ca2_" ++ mem) refl) s t

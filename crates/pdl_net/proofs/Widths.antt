@@ -14,6 +14,7 @@ use Rattle.pdl_net.specs.Well.{IsWidth, FitsIn, IsWell, CellsWell}
 use Rattle.pdl_net.proofs.CellSignals.{cell_at, signal_cell, fits_cell}
 use Rattle.pdl_net.proofs.Bounds.{input_well, rep_wide}
 use Rattle.pdl_net.specs.Width.{IsBefore}
+use Rattle.pdl_word.specs.Words.{widest}
 
 -- a net among the first k cells comes before the next
 pub before : (c : Circuit) (k : ℕ) (a : Net) → k ≤ length c.cells → IsThereAt c k a → IsBefore c a (k + 1)
@@ -32,11 +33,11 @@ pub fits_now : (c : Circuit) → CellsWell c → (k : ℕ) (g : Cell)
     → k < length c.cells → g ≡ cell_at c k → FitsIn c (IsThereAt c k) (signal c) g
 fits_now c w k g h e = let P : Cell → Type 0 = λ x. FitsIn c (IsThereAt c k) (signal c) x in subst P (sym e) (fits_cell c w.fit k h)
 
--- what the k-th cell makes has at most 64 bits, where all cells are well formed
+-- what the k-th cell makes has at most widest bits, where all cells are well formed
 pub width_now : (c : Circuit) → CellsWell c → (k : ℕ) (g : Cell)
-    → k < length c.cells → g ≡ cell_at c k → (cell_signal c (signal c) g).width ≤ 64
+    → k < length c.cells → g ≡ cell_at c k → (cell_signal c (signal c) g).width ≤ widest
 width_now c w k g h e =
-    let P : Cell → Type 0 = λ x. (cell_signal c (signal c) x).width ≤ 64 in
+    let P : Cell → Type 0 = λ x. (cell_signal c (signal c) x).width ≤ widest in
     let b = (w.widths k h).high in
     subst P (sym e) (omega (arith, b, width_is c w k h))
 
@@ -80,7 +81,7 @@ bin_wide Xor w h = h
 bin_wide Shl w h = h
 bin_wide Shr w h = h
 
--- a cell over nets of 1 to 64 bits has 1 to 64 bits
+-- a cell over nets of 1 to widest bits has 1 to widest bits
 cell_wide : (c : Circuit) (There : Net → Type 0) (at : Net → Signal) → IsWell c
     → ((x : Net) → There x → IsWidth (at x).width) → (g : Cell) → FitsIn c There at g
     → IsWidth (cell_signal c at g).width
@@ -93,7 +94,7 @@ cell_wide c There at w h (Cat a b) f = let p = h a f.0 in record { low = omega (
 cell_wide c There at w h (Rep k a) f = let p = h a f.0 in record { low = rep_wide k (at a).width f.1 p.low; high = f.2 }
 cell_wide c There at w h (Read m a) f = let k = w.arrays m f.0 in record { low = k.low; high = k.high }
 
--- each net of a well formed circuit has 1 to 64 bits
+-- each net of a well formed circuit has 1 to widest bits
 wide_at : (c : Circuit) → IsWell c → (n : ℕ) → n ≤ length c.cells → (x : Net) → IsThereAt c n x → IsWidth (signal c x).width
 unfolding signal
 wide_at c w n l (Input i) h = input_well c w i h
@@ -111,7 +112,7 @@ wide_at c w (suc n) l (CellNet k) h =
     (cell_wide c (IsThereAt c n) (signal c) w (wide_at c w n (omega arith)) (cell_at c k) (subst Q e (fits_cell c w.cells k i))))
     (cases_lt k n)
 
--- all cells of a well formed circuit fit, and have 1 to 64 bits
+-- all cells of a well formed circuit fit, and have 1 to widest bits
 pub cells_well : (c : Circuit) → IsWell c → CellsWell c
 unfolding IsThere
 cells_well c w = record { fit = w.cells; widths = λ k h. wide_at c w (length c.cells) (omega arith) (CellNet k) h }

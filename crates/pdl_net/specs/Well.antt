@@ -13,11 +13,12 @@ use Rattle.pdl_net.specs.declared.Array.{Array}
 use Rattle.pdl_net.specs.Circuit.{Circuit, State, inputs_of, reg_at, array_at}
 use Rattle.pdl_net.specs.Signal.{Signal}
 use Rattle.pdl_net.specs.Meaning.{look, cell_signal, signal, IsThereAt, IsThere}
+use Rattle.pdl_word.specs.Words.{widest}
 
 -- a width in bits
 pub record IsWidth (w : ℕ) : Type 0 where
   pub low : 1 ≤ w
-  pub high : w ≤ 64
+  pub high : w ≤ widest
 
 -- a depth of an array: a power of two from 2 to 131,072
 pub record IsDepth (d : ℕ) : Type 0 where
@@ -28,13 +29,13 @@ pub record IsDepth (d : ℕ) : Type 0 where
 
 -- a cell reads nets that are there, with the right widths; an address reaches each word of its array and no more
 abbrev pub FitsIn : Circuit → (Net → Type 0) → (Net → Signal) → Cell → Type 0
-FitsIn c There at (Const w v) = (1 ≤ w) × (w ≤ 64) × (v < 2 ^ w)
+FitsIn c There at (Const w v) = (1 ≤ w) × (w ≤ widest) × (v < 2 ^ w)
 FitsIn c There at (Not a) = There a
 FitsIn c There at (Bin op a b) = There a × There b × ((at a).width ≡ (at b).width)
 FitsIn c There at (Mux x a b) = There x × There a × There b × ((at x).width ≡ 1) × ((at a).width ≡ (at b).width)
 FitsIn c There at (Slice a high low) = There a × (low ≤ high) × (high < (at a).width)
-FitsIn c There at (Cat a b) = There a × There b × ((at a).width + (at b).width ≤ 64)
-FitsIn c There at (Rep k a) = There a × (1 ≤ k) × (k * (at a).width ≤ 64)
+FitsIn c There at (Cat a b) = There a × There b × ((at a).width + (at b).width ≤ widest)
+FitsIn c There at (Rep k a) = There a × (1 ≤ k) × (k * (at a).width ≤ widest)
 FitsIn c There at (Read m a) = (m < length c.arrays) × There a × (2 ^ (at a).width ≡ (array_at c m).depth)
 
 -- a cell reads nets of the circuit, with the right widths
@@ -50,7 +51,7 @@ AllFit c (g ∷ gs) done = FitsIn c (IsThereAt c (length done)) (look c done) g 
 abbrev pub CellsFit : Circuit → Type 0
 CellsFit c = AllFit c c.cells []
 
--- all cells fit, and have 1 to 64 bits
+-- all cells fit, and have 1 to widest bits
 pub record CellsWell (c : Circuit) : Type 0 where
   pub fit : CellsFit c
   pub widths : (k : ℕ) → k < length c.cells → IsWidth (signal c (CellNet k)).width
@@ -60,16 +61,16 @@ abbrev pub IsDriven : Circuit → ℕ → Dir → Type 0
 IsDriven c w In = Unit {0}
 IsDriven c w (Out x) = IsThere c x × ((signal c x).width ≡ w)
 
--- a port has 1 to 64 bits, and an output is driven by a net of that width
+-- a port has 1 to widest bits, and an output is driven by a net of that width
 pub record IsWellPort (c : Circuit) (p : Port) : Type 0 where
   pub low : 1 ≤ p.width
-  pub high : p.width ≤ 64
+  pub high : p.width ≤ widest
   pub driven : IsDriven c p.width p.dir
 
 -- a register's reset value fits its width, and its next value is there, with that width
 pub record IsWellReg (c : Circuit) (r : Reg) : Type 0 where
   pub low : 1 ≤ r.width
-  pub high : r.width ≤ 64
+  pub high : r.width ≤ widest
   pub reset : r.reset < 2 ^ r.width
   pub next : IsThere c r.next
   pub width : (signal c r.next).width ≡ r.width
@@ -83,10 +84,10 @@ pub record IsWellWrite (c : Circuit) (a : Array) (p : WritePort) : Type 0 where
   pub reach : 2 ^ (signal c p.addr).width ≡ a.depth
   pub width : (signal c p.value).width ≡ a.width
 
--- an array has words of 1 to 64 bits, a depth that is allowed, and write ports that fit it
+-- an array has words of 1 to widest bits, a depth that is allowed, and write ports that fit it
 pub record IsWellArray (c : Circuit) (a : Array) : Type 0 where
   pub low : 1 ≤ a.width
-  pub high : a.width ≤ 64
+  pub high : a.width ≤ widest
   pub depth : IsDepth a.depth
   pub writes : (k : ℕ) (p : WritePort) → slice_get a.writes k ≡ Some p → IsWellWrite c a p
 
@@ -107,8 +108,8 @@ pub record Suits (c : Circuit) (s : State) : Type 0 where
   pub depth : (m : ℕ) → m < length c.arrays → length (slice_index_or s.arrays m []) ≡ (array_at c m).depth
   pub words : (m : ℕ) → m < length c.arrays → (a : ℕ) → slice_index (slice_index_or s.arrays m []) a < 2 ^ (array_at c m).width
 
--- a signal of 1 to 64 bits whose value fits its width
+-- a signal of 1 to widest bits whose value fits its width
 pub record IsBounded (s : State) (f : Signal) : Type 0 where
   pub low : 1 ≤ f.width
-  pub high : f.width ≤ 64
+  pub high : f.width ≤ widest
   pub fits : f.value s < 2 ^ f.width

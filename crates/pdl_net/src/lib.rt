@@ -6,6 +6,7 @@
 mod width;
 
 use pdl_kit::{MemInfo, Name, Seq};
+use pdl_word::Word;
 
 /// What a cell, a register, an array or an output reads: an input, a register or a cell, each counted from 0.
 ///
@@ -38,8 +39,8 @@ pub enum BinOp {
 /// A cell: one value made of the values of inputs, registers, arrays and earlier cells.
 #[derive(Clone, Copy, PartialEq, Eq, Hash)]
 pub enum Cell {
-    /// A constant of a width of 1 to 64 bits, with a value that fits it.
-    Const { width: u8, value: u64 },
+    /// A constant of a width of 1 to `WIDEST` bits, with a value that fits it.
+    Const { width: u8, value: Word },
     /// Each bit the other way.
     Not(Net),
     /// An operator on two nets of one width.
@@ -48,9 +49,9 @@ pub enum Cell {
     Mux(Net, Net, Net),
     /// The bits of a net from `high` down to `low`, counted from 0.
     Slice { a: Net, high: u8, low: u8 },
-    /// The first net above the second, of at most 64 bits together.
+    /// The first net above the second, of at most `WIDEST` bits together.
     Cat(Net, Net),
-    /// A net `count` times in a row, at least once and of at most 64 bits together.
+    /// A net `count` times in a row, at least once and of at most `WIDEST` bits together.
     Rep { count: u8, a: Net },
     /// The word of an array at an address.
     Read { array: usize, addr: Net },
@@ -63,7 +64,7 @@ pub enum Dir {
     Out(Net),
 }
 
-/// A port, with its width in bits, 1 to 64.
+/// A port, with its width in bits, 1 to `WIDEST`.
 #[derive(Drop)]
 pub struct Port {
     pub name: Name,
@@ -71,11 +72,11 @@ pub struct Port {
     pub dir: Dir,
 }
 
-/// A register, with its width in bits, 1 to 64, its value in the first cycle, and the net whose value it takes after each cycle.
+/// A register, with its width in bits, 1 to `WIDEST`, its value in the first cycle, and the net whose value it takes after each cycle.
 #[derive(Clone, Copy)]
 pub struct Reg {
     pub width: u8,
-    pub reset: u64,
+    pub reset: Word,
     pub next: Net,
 }
 

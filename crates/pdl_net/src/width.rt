@@ -4,6 +4,7 @@ ghost use Rattle.pdl_net.specs.Circuit.{circuit_of, inputs_of, array_at};
 ghost use Rattle.pdl_net.specs.Meaning.{signal, cell_signal, IsThere, IsThereAt};
 ghost use Rattle.pdl_net.specs.Well.{CellsWell, FitsIn};
 ghost use Rattle.pdl_net.specs.Width.{Widens, place};
+ghost use Rattle.pdl_word.specs.Words.{widest};
 
 use crate::{BinOp, Cell, Dir, Net, Netlist};
 
@@ -55,7 +56,7 @@ impl Netlist {
         requires fits { FitsIn (circuit_of self.now) (IsThereAt (circuit_of self.now) k)
             (signal (circuit_of self.now)) cell }
         requires width { (cell_signal (circuit_of self.now)
-            (signal (circuit_of self.now)) cell).width ≤ 64 }
+            (signal (circuit_of self.now)) cell).width ≤ widest }
         ensures { Widens (circuit_of self.now) (k + 1)
             (cell_signal (circuit_of self.now) (signal (circuit_of self.now)) cell).width result }
     {

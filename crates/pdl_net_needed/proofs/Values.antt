@@ -15,6 +15,7 @@ use Rattle.pdl_net.specs.Well.{FitsIn, AllFit}
 use Rattle.pdl_net_needed.specs.Needed.{reads_of, no_cell, Choice, IsKept}
 use Rattle.pdl_net_needed.specs.Pruned.{kept_of, kept_before, moved_net, moved_cell}
 use Rattle.pdl_net_needed.proofs.Counts.{kept_get, kept_less, kept_next}
+use Rattle.pdl_word.specs.Words.{widest}
 
 -- two circuits with the same inputs and array sizes, of which the second has the kept registers of the first
 pub record HasMoved (c c' : Circuit) (k : Choice) : Type 0 where
@@ -62,7 +63,7 @@ moved_fits c c' k s s' There There' at at' m h (Cat a b) e f =
     let p = h a f.0 e.0 in let q = h b f.1 e.1.0 in
     (p.there, q.there, omega (arith, p.same.width, q.same.width, f.2))
 moved_fits c c' k s s' There There' at at' m h (Rep n a) e f =
-    let p = h a f.0 e.0 in let P : ℕ → Type 0 = λ w. n * w ≤ 64 in
+    let p = h a f.0 e.0 in let P : ℕ → Type 0 = λ w. n * w ≤ widest in
     (p.there, f.1, subst P (sym p.same.width) f.2)
 moved_fits c c' k s s' There There' at at' m h (Read i a) e f =
     let p = h a f.1 e.0 in

@@ -1,6 +1,9 @@
 pub mod Words
 pub mod Bits
 pub mod Steps
+pub mod Fronts
+pub mod NarrowLists
+pub mod NarrowNets
 pub mod Orders
 pub mod PlanLemmas
 pub mod Values
@@ -8,5 +11,6 @@ pub mod Arrays
 pub mod Environment
 pub mod Reset
 pub mod SimCycle
+pub mod CycleParts
 pub mod Cycles
 pub mod Sample

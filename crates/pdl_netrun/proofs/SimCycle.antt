@@ -16,7 +16,8 @@ use Rattle.pdl_net.specs.Meaning.{signal, IsThere}
 use Rattle.pdl_net.specs.Well.{IsWell, IsWellPort, IsDriven, Suits}
 use Rattle.pdl_net.specs.Cycle.{net_value, output_values, next_regs, next_arrays}
 use Rattle.pdl_net.specs.Run.{Store, next_stores, delayed_mems, answers, some_waits}
-use Rattle.pdl_netrun.specs.Steps.{AreBelow, array_words, steps_of}
+use Rattle.pdl_netrun.specs.Steps.{AreBelow, steps_of}
+use Rattle.pdl_netrun.specs.Held.{begun_with, bits_of, held_lists, put_at}
 use Rattle.pdl_netrun.specs.Order.{first_place, place, unplaced, cell_at, HasTurn, IsPlaced, IsOrder, AllEarly}
 use Rattle.pdl_netrun.specs.Plan.{HasValues, HasConstants, IsHeld}
 use Rattle.pdl_netrun.specs.Sim.{Run, run_after}
@@ -29,7 +30,7 @@ use Rattle.pdl_netrun.proofs.Values.{IsWalked, order_steps, walked}
 
 -- the state of the circuit in the next cycle, with these reply bits
 abbrev pub state_now : Inside → ℕ → State
-state_now a bits = record { inputs = answers (stores_of a.outside.items) bits; regs = a.next.items; arrays = array_words a.arrays.items }
+state_now a bits = record { inputs = answers (stores_of a.outside.items) bits; regs = (held_lists a.held).next; arrays = (held_lists a.held).arrays }
 
 -- the state in the next cycle suits the circuit of a simulator that is ready
 pub suits_now : (a : Inside) (bits : ℕ) → IsReady a → Suits (circuit_of a.net.now) (state_now a bits)
@@ -38,13 +39,9 @@ suits_now a bits r =
     let i = inputs_fit (inputs_of (circuit_of a.net.now)) (stores_of a.outside.items) bits (r.outside).fit in
     record { input_count = i.count; inputs = i.each; reg_count = h.reg_count; regs = h.each; array_count = h.array_count; depth = h.depth; words = h.words }
 
--- the list of values with those of the registers put in
-abbrev pub values_put : ℕ → List ℕ → List ℕ → List ℕ
-values_put n vs next = take n vs ++ next ++ drop (n + length next) vs
-
 -- the registers are those that were put there, and nothing after them has changed
 put_within : (vs next : List ℕ) (n r : ℕ)
-    → n ≤ length vs → r < length next → slice_index (values_put n vs next) (n + r) ≡ slice_index next r
+    → n ≤ length vs → r < length next → slice_index (put_at n vs next) (n + r) ≡ slice_index next r
 put_within vs next n r h l =
     let m : length (take n vs) ≡ n = length-take-le n vs h in
     let e : n + r - n ≡ r = omega arith in
@@ -54,7 +51,7 @@ put_within vs next n r h l =
     ∙ get_or_append_left next (drop (n + length next) vs) 0 r l
 
 put_after : (vs next : List ℕ) (n j : ℕ)
-    → n + length next ≤ j → n + length next ≤ length vs → slice_index (values_put n vs next) j ≡ slice_index vs j
+    → n + length next ≤ j → n + length next ≤ length vs → slice_index (put_at n vs next) j ≡ slice_index vs j
 put_after vs next n j h l =
     let m : length (take n vs) ≡ n = length-take-le n vs (omega arith) in
     let e : n + length next + (j - n - length next) ≡ j = omega arith in
@@ -65,7 +62,7 @@ put_after vs next n j h l =
     ∙ ap (λ i. slice_index vs i) e
 
 -- the list of values stays as long as it was, where there is room for what is put in
-pub put_length : (vs next : List ℕ) (n : ℕ) → n + length next ≤ length vs → length (values_put n vs next) ≡ length vs
+pub put_length : (vs next : List ℕ) (n : ℕ) → n + length next ≤ length vs → length (put_at n vs next) ≡ length vs
 put_length vs next n l =
     let a = length-take-le n vs (omega arith) in
     let b = length-append (take n vs ++ next) (drop (n + length next) vs) in
@@ -74,7 +71,7 @@ put_length vs next n l =
     omega (arith, a, b, d, e)
 
 -- nothing before them has changed
-put_before : (vs next : List ℕ) (n j : ℕ) → j < n → n ≤ length vs → slice_index (values_put n vs next) j ≡ slice_index vs j
+put_before : (vs next : List ℕ) (n j : ℕ) → j < n → n ≤ length vs → slice_index (put_at n vs next) j ≡ slice_index vs j
 put_before vs next n j h l =
     let m : length (take n vs) ≡ n = length-take-le n vs l in
     ap (λ xs. slice_index xs j) (append_assoc (take n vs) next (drop (n + length next) vs))
@@ -85,22 +82,22 @@ put_before vs next n j h l =
 values_first : (c : Circuit) (s : State) (ps vs : List ℕ) (order : List ℕ)
     → length s.inputs ≡ length (inputs_of c) → IsOrder c order ps → length s.regs ≡ length c.regs
     → length vs ≡ first_place c + length order
-    → HasValues c ps s (values_put (length (inputs_of c)) (values_put 0 vs s.inputs) s.regs) (first_place c)
+    → HasValues c ps s (put_at (length (inputs_of c)) (put_at 0 vs s.inputs) s.regs) (first_place c)
 unfolding signal reg_value input_value
 values_first c s ps vs order n o g l = record { each = at }
   where
-    long : length (values_put 0 vs s.inputs) ≡ length vs
+    long : length (put_at 0 vs s.inputs) ≡ length vs
     long = put_length vs s.inputs 0 (omega (arith, n, l))
 
     at : (x : Net) → IsPlaced c ps (first_place c) x
-        → slice_index (values_put (length (inputs_of c)) (values_put 0 vs s.inputs) s.regs) (place c ps x) ≡ (signal c x).value s
+        → slice_index (put_at (length (inputs_of c)) (put_at 0 vs s.inputs) s.regs) (place c ps x) ≡ (signal c x).value s
     at (Input i) h =
         let q = h.there in
         let z : 0 + i ≡ i = omega arith in
-        put_before (values_put 0 vs s.inputs) s.regs (length (inputs_of c)) i q (omega (arith, l, long))
-        ∙ ap (slice_index (values_put 0 vs s.inputs)) (sym z)
+        put_before (put_at 0 vs s.inputs) s.regs (length (inputs_of c)) i q (omega (arith, l, long))
+        ∙ ap (slice_index (put_at 0 vs s.inputs)) (sym z)
         ∙ put_within vs s.inputs 0 i (omega arith) (omega (arith, n, q))
-    at (RegNet r) h = let q = h.there in put_within (values_put 0 vs s.inputs) s.regs (length (inputs_of c)) r (omega (arith, l, long)) (omega (arith, g, q))
+    at (RegNet r) h = let q = h.there in put_within (put_at 0 vs s.inputs) s.regs (length (inputs_of c)) r (omega (arith, l, long)) (omega (arith, g, q))
     at (CellNet k) h = absurd (late k (o.known k h.there) h.early)
       where
         late : (k : ℕ) → (slice_index ps k ≡ unplaced) ⊎ HasTurn c order ps k → slice_index ps k < first_place c → ⊥
@@ -110,26 +107,27 @@ values_first c s ps vs order n o g l = record { each = at }
 -- what is put before the cells leaves the constants
 constants_put : (c : Circuit) (order ps vs next : List ℕ) (n : ℕ) → IsOrder c order ps
     → n + length next ≤ first_place c → length vs ≡ first_place c + length order → HasConstants c ps (length vs) vs
-    → HasConstants c ps (length vs) (values_put n vs next)
+    → HasConstants c ps (length vs) (put_at n vs next)
 constants_put c order ps vs next n o e l f = record { each = λ k h b. held k h b (o.known k h) }
   where
     held : (k : ℕ) → k < length c.cells → slice_index ps k < length vs
         → (slice_index ps k ≡ unplaced) ⊎ HasTurn c order ps k
-        → IsHeld (cell_at c k) (slice_index (values_put n vs next) (slice_index ps k))
+        → IsHeld (cell_at c k) (slice_index (put_at n vs next) (slice_index ps k))
     held k h b (inl u) = let r = o.room in absurd (omega (arith, u, b, l, r))
     held k h b (inr t) =
         let q = t.own in
         subst (λ x. IsHeld (cell_at c k) x) (sym (put_after vs next n (slice_index ps k) (omega (arith, e, q)) (omega (arith, e, l)))) (f.each k h b)
 
 -- the list of values with those of the inputs
-abbrev answered_values : Inside → ℕ → List ℕ
-answered_values a bits = values_put 0 a.values.items (answers (stores_of a.outside.items) bits)
+abbrev pub answered_values : Inside → ℕ → List ℕ
+answered_values a bits = put_at 0 (held_lists a.held).values (answers (stores_of a.outside.items) bits)
 
 -- the list of values as a cycle begins to walk
 abbrev pub begun_values : Inside → ℕ → List ℕ
-begun_values a bits = values_put a.first_reg (answered_values a bits) a.next.items
+begun_values a bits = begun_with a.plan (answers (stores_of a.outside.items) bits) (held_lists a.held)
 
-next_count : (a : Inside) → IsReady a → length a.next.items ≡ length a.net.now.regs
+-- a register has one next value
+pub next_count : (a : Inside) → IsReady a → length (held_lists a.held).next ≡ length a.net.now.regs
 next_count a r = (r.holds).reg_count
 
 -- there is an answer for each input of the netlist
@@ -137,19 +135,20 @@ pub answers_count : (a : Inside) (bits : ℕ) → IsReady a
     → length (answers (stores_of a.outside.items) bits) ≡ length (inputs_of (circuit_of a.net.now))
 answers_count a bits r = (inputs_fit (inputs_of (circuit_of a.net.now)) (stores_of a.outside.items) bits (r.outside).fit).count
 
-answered_count : (a : Inside) (bits : ℕ) → IsReady a → length (answered_values a bits) ≡ length a.values.items
+-- with the inputs the list has as many values as before
+pub answered_count : (a : Inside) (bits : ℕ) → IsReady a → length (answered_values a bits) ≡ length (held_lists a.held).values
 answered_count a bits r = let l = r.room in let n = answers_count a bits r in
-    put_length a.values.items (answers (stores_of a.outside.items) bits) 0 (omega (arith, l, n))
+    put_length (held_lists a.held).values (answers (stores_of a.outside.items) bits) 0 (omega (arith, l, n))
 
 -- as a cycle begins to walk, the list has as many values as before
-pub begun_count : (a : Inside) (bits : ℕ) → IsReady a → length (begun_values a bits) ≡ length a.values.items
-begun_count a bits r = let e = r.first_reg in let l = r.room in let n = next_count a r in
+pub begun_count : (a : Inside) (bits : ℕ) → IsReady a → length (begun_values a bits) ≡ length (held_lists a.held).values
+begun_count a bits r = let e = r.plan.first_reg in let l = r.room in let n = next_count a r in
     let k = answered_count a bits r in
-    put_length (answered_values a bits) a.next.items a.first_reg (omega (arith, e, l, n, k)) ∙ k
+    put_length (answered_values a bits) (held_lists a.held).next a.plan.first_reg (omega (arith, e, l, n, k)) ∙ k
 
 -- what the steps of a cycle do
 pub walked_now : (a : Inside) (bits : ℕ) (r : IsReady a)
-    → IsWalked (circuit_of a.net.now) r.places (state_now a bits) (begun_values a bits) (steps_of a.runs.items) a.first_cell
+    → IsWalked (bits_of a.held) (circuit_of a.net.now) r.places (state_now a bits) (begun_values a bits) (steps_of a.plan.runs.items) a.plan.first_cell
 walked_now a bits r =
     let c = circuit_of a.net.now in
     let s = state_now a bits in
@@ -158,20 +157,20 @@ walked_now a bits r =
     let j = answers_count a bits r in
     let k = answered_count a bits r in
     let l = r.room in
-    let e : values_put i (answered_values a bits) a.next.items ≡ begun_values a bits =
-    ap (λ x. values_put x (answered_values a bits) a.next.items) (sym r.first_reg) in
+    let e : put_at i (answered_values a bits) (held_lists a.held).next ≡ begun_values a bits =
+    ap (λ x. put_at x (answered_values a bits) (held_lists a.held).next) (sym r.plan.first_reg) in
     let m = begun_count a bits r in
-    let v = subst (λ (xs : List ℕ). HasValues c r.places s xs (first_place c)) e (values_first c s r.places a.values.items r.order j r.ordered n r.room) in
-    let asked = constants_put c r.order r.places a.values.items (answers (stores_of a.outside.items) bits) 0 r.ordered (omega (arith, j)) r.room r.constants in
+    let v = subst (λ (xs : List ℕ). HasValues c r.places s xs (first_place c)) e (values_first c s r.places (held_lists a.held).values r.order j r.ordered n r.room) in
+    let asked = constants_put c r.order r.places (held_lists a.held).values (answers (stores_of a.outside.items) bits) 0 r.ordered (omega (arith, j)) r.room r.constants in
     let held =
-    constants_put c r.order r.places (answered_values a bits) a.next.items i r.ordered (omega (arith, n)) (k ∙ l)
+    constants_put c r.order r.places (answered_values a bits) (held_lists a.held).next i r.ordered (omega (arith, n)) (k ∙ l)
     (subst (λ (x : ℕ). HasConstants c r.places x (answered_values a bits)) (sym k) asked) in
     let constants = subst (λ (xs : List ℕ). HasConstants c r.places (length (answered_values a bits)) xs) e held in
     let w =
-    walked c s r.well (suits_now a bits r) r.order r.places r.ordered (begun_values a bits)
+    walked c s r.well (suits_now a bits r) (bits_of a.held) r.within r.order r.places r.ordered (begun_values a bits)
     (m ∙ r.room) v (subst (λ (x : ℕ). HasConstants c r.places x (begun_values a bits)) (k ∙ sym m) constants) in
-    subst (λ xs. IsWalked c r.places s (begun_values a bits) xs a.first_cell) (sym r.runs)
-    (subst (λ n. IsWalked c r.places s (begun_values a bits) (order_steps c r.places r.order) n) (sym r.first_cell) w)
+    subst (λ xs. IsWalked (bits_of a.held) c r.places s (begun_values a bits) xs a.plan.first_cell) (sym r.plan.runs)
+    (subst (λ n. IsWalked (bits_of a.held) c r.places s (begun_values a bits) (order_steps c r.places r.order) n) (sym r.plan.first_cell) w)
 
 -- OUTPUTS AND REGISTERS
 

@@ -1,14 +1,25 @@
 -- The steps of the loops over cells, runs, places and writes.
-use Rattle.std.proofs.Common.{◌≡◌, ℕ, suc, ◌+◌, ◌-◌, ◌<◌, ◌≤◌, List, [], ◌∷◌, ◌++◌, length, get_or, take, drop, set, map, refl, sym, ap, ◌∙◌, subst, arith, length-append}
+use Rattle.std.proofs.Common.{◌≡◌, false, ℕ, suc, ◌+◌, ◌-◌, ◌<◌, ◌≤◌, List, [], ◌∷◌, ◌++◌, length, get_or, take, drop, set, map, refl, sym, ap, ◌∙◌, subst, arith, length-append}
 use Rattle.std.proofs.lemmas.List.{take_all, map_more, drop_more, drop_all, length-set, length-map, take-append-drop, map-append, length-take-le, length-drop, drop-drop}
 use Rattle.std.proofs.lemmas.Grind.{take-set_at}
 use Rattle.pdl_netrun.specs.declared.operation.CellKind.{CellKind}
 use Rattle.pdl_netrun.specs.declared.operation.CellKind.TheVariants as kinds
 use Rattle.pdl_netrun.specs.declared.operation.CellOperands.{CellOperands}
 use Rattle.pdl_netrun.specs.declared.walk.CellRun.{CellRun}
-use Rattle.pdl_netrun.specs.RunKinds.{kind_in}
+use Rattle.pdl_netrun.specs.RunKinds.{is_constant, kind_in}
+use Rattle.pdl_netrun.specs.declared.run_kind.RunKind.{RunKind}
+use Rattle.pdl_netrun.specs.declared.run_kind.RunKind.TheVariants.{Taking, Testing, Counting}
+use Rattle.pdl_netrun.specs.declared.run_kind.TakingKind.TheVariants.{Word, Part}
+use Rattle.pdl_netrun.specs.declared.run_kind.TestingKind.TheVariants.{Compare, Combine}
+use Rattle.pdl_netrun.specs.declared.run_kind.CountingKind.TheVariants.{Count, Turn}
+use Rattle.pdl_netrun.specs.declared.run_kind.WordKind.TheVariants as word
+use Rattle.pdl_netrun.specs.declared.run_kind.PartKind.TheVariants as part
+use Rattle.pdl_netrun.specs.declared.run_kind.CompareKind.TheVariants as compare
+use Rattle.pdl_netrun.specs.declared.run_kind.CombineKind.TheVariants as combine
+use Rattle.pdl_netrun.specs.declared.run_kind.CountKind.TheVariants as count
+use Rattle.pdl_netrun.specs.declared.run_kind.TurnKind.TheVariants as turn
 use Rattle.pdl_netrun.specs.declared.writes.PlannedWrite.{PlannedWrite}
-use Rattle.pdl_netrun.specs.Steps.{Step, KindFits, StepsFit, steps_with, steps_of, after_kind, after_step, after_steps, after_write, after_all}
+use Rattle.pdl_netrun.specs.Steps.{Step, KindFits, StepsFit, steps_with, steps_of, after_kind, kind_value, after_step, after_steps, after_write, after_all}
 
 -- CELLS OF ONE KIND
 
@@ -24,22 +35,44 @@ cells_more kind os first k o vs ws h e =
     ∙ sym (ap (λ l. after_steps (steps_with kind l) (first + k) vs ws) (drop_more os k o h))
 
 -- a cell whose turn it is fits, and so do those after it
-pub cells_fit : (kind : CellKind) (os : List CellOperands) (first k : ℕ) (o : CellOperands) (vs : List ℕ) (ws : List (List ℕ))
-    → k < length os → o ≡ get_or os k o → StepsFit (steps_with kind (drop k os)) (first + k) vs ws
-    → KindFits kind o vs ws × StepsFit (steps_with kind (drop (k + 1) os)) (first + (k + 1)) (after_kind kind o (first + k) vs ws) ws
-cells_fit kind os first k o vs ws h e f =
-    let P : List CellOperands → Type 0 = λ l. StepsFit (steps_with kind l) (first + k) vs ws in
-    let g : StepsFit (steps_with kind (get_or os k o ∷ drop (k + 1) os)) (first + k) vs ws = subst P (drop_more os k o h) f in
+pub cells_fit : (bits : ℕ) (kind : CellKind) (os : List CellOperands) (first k : ℕ) (o : CellOperands) (vs : List ℕ) (ws : List (List ℕ))
+    → k < length os → o ≡ get_or os k o → StepsFit bits (steps_with kind (drop k os)) (first + k) vs ws
+    → KindFits bits kind o vs ws × StepsFit bits (steps_with kind (drop (k + 1) os)) (first + (k + 1)) (after_kind kind o (first + k) vs ws) ws
+cells_fit bits kind os first k o vs ws h e f =
+    let P : List CellOperands → Type 0 = λ l. StepsFit bits (steps_with kind l) (first + k) vs ws in
+    let g : StepsFit bits (steps_with kind (get_or os k o ∷ drop (k + 1) os)) (first + k) vs ws = subst P (drop_more os k o h) f in
     let n : suc (first + k) ≡ first + (k + 1) = omega arith in
     let Q : CellOperands → Type 0 =
-    λ y. KindFits kind y vs ws × StepsFit (steps_with kind (drop (k + 1) os)) (suc (first + k)) (after_kind kind y (first + k) vs ws) ws in
+    λ y. KindFits bits kind y vs ws × StepsFit bits (steps_with kind (drop (k + 1) os)) (suc (first + k)) (after_kind kind y (first + k) vs ws) ws in
     let q : Q o = subst Q (sym e) g in
-    (q.0, let R : ℕ → Type 0 = λ j. StepsFit (steps_with kind (drop (k + 1) os)) j (after_kind kind o (first + k) vs ws) ws in subst R n q.1)
+    (q.0, let R : ℕ → Type 0 = λ j. StepsFit bits (steps_with kind (drop (k + 1) os)) j (after_kind kind o (first + k) vs ws) ws in subst R n q.1)
 
 -- past the last cell of a kind no step changes the values
 pub cells_all : (kind : CellKind) (os : List CellOperands) (first k : ℕ) (vs : List ℕ) (ws : List (List ℕ))
     → length os ≤ k → after_steps (steps_with kind (drop k os)) (first + k) vs ws ≡ vs
 cells_all kind os first k vs ws h = ap (λ l. after_steps (steps_with kind l) (first + k) vs ws) (drop_all k os h)
+
+-- a cell that is no constant gives its place its value
+pub given : (kind : RunKind) (o : CellOperands) (at : ℕ) (vs : List ℕ) (ws : List (List ℕ))
+    → is_constant kind ≡ false → after_kind (kind_in kind) o at vs ws ≡ set vs at (kind_value (kind_in kind) o vs ws)
+given (Taking (Word word.Constant)) o at vs ws e = absurd cc
+given (Taking (Word word.Choose)) o at vs ws e = refl
+given (Taking (Word word.Look)) o at vs ws e = refl
+given (Taking (Part part.Slice)) o at vs ws e = refl
+given (Taking (Part part.Join)) o at vs ws e = refl
+given (Taking (Part part.Repeat)) o at vs ws e = refl
+given (Testing (Compare compare.Equal)) o at vs ws e = refl
+given (Testing (Compare compare.Differ)) o at vs ws e = refl
+given (Testing (Compare compare.Less)) o at vs ws e = refl
+given (Testing (Combine combine.And)) o at vs ws e = refl
+given (Testing (Combine combine.Or)) o at vs ws e = refl
+given (Testing (Combine combine.Xor)) o at vs ws e = refl
+given (Counting (Count count.Add)) o at vs ws e = refl
+given (Counting (Count count.Sub)) o at vs ws e = refl
+given (Counting (Count count.Mul)) o at vs ws e = refl
+given (Counting (Turn turn.Complement)) o at vs ws e = refl
+given (Counting (Turn turn.ShiftLeft)) o at vs ws e = refl
+given (Counting (Turn turn.ShiftRight)) o at vs ws e = refl
 
 -- RUNS
 
@@ -51,13 +84,13 @@ after_append (x ∷ xs) ys at vs ws =
     let e : suc at + length xs ≡ at + suc (length xs) = omega arith in
     after_append xs ys (suc at) (after_step x at vs ws) ws ∙ ap (λ n. after_steps ys n (after_steps xs (suc at) (after_step x at vs ws) ws) ws) e
 
-fit_append : (xs ys : List Step) (at : ℕ) (vs : List ℕ) (ws : List (List ℕ)) → StepsFit (xs ++ ys) at vs ws
-    → StepsFit xs at vs ws × StepsFit ys (at + length xs) (after_steps xs at vs ws) ws
-fit_append [] ys at vs ws f = let e : at ≡ at + 0 = omega arith in (tt, subst (λ n. StepsFit ys n vs ws) e f)
-fit_append (x ∷ xs) ys at vs ws f =
+fit_append : (bits : ℕ) (xs ys : List Step) (at : ℕ) (vs : List ℕ) (ws : List (List ℕ)) → StepsFit bits (xs ++ ys) at vs ws
+    → StepsFit bits xs at vs ws × StepsFit bits ys (at + length xs) (after_steps xs at vs ws) ws
+fit_append bits [] ys at vs ws f = let e : at ≡ at + 0 = omega arith in (tt, subst (λ n. StepsFit bits ys n vs ws) e f)
+fit_append bits (x ∷ xs) ys at vs ws f =
     let e : suc at + length xs ≡ at + suc (length xs) = omega arith in
-    let r = fit_append xs ys (suc at) (after_step x at vs ws) ws f.1 in
-    ((f.0, r.0), subst (λ n. StepsFit ys n (after_steps xs (suc at) (after_step x at vs ws) ws) ws) e r.1)
+    let r = fit_append bits xs ys (suc at) (after_step x at vs ws) ws f.1 in
+    ((f.0, r.0), subst (λ n. StepsFit bits ys n (after_steps xs (suc at) (after_step x at vs ws) ws) ws) e r.1)
 
 -- the steps of constants change no value
 pub constants_stand : (os : List CellOperands) (at : ℕ) (vs : List ℕ) (ws : List (List ℕ))
@@ -91,13 +124,13 @@ halves_after kind os n first vs ws l =
     ∙ sym (ap (λ xs. after_steps xs first vs ws) (with_halves kind os n))
 
 -- where all cells fit, the first n do, and then the others
-pub halves_fit : (kind : CellKind) (os : List CellOperands) (n first : ℕ) (vs : List ℕ) (ws : List (List ℕ)) → n ≤ length os
-    → StepsFit (steps_with kind os) first vs ws
-    → StepsFit (steps_with kind (take n os)) first vs ws
-    × StepsFit (steps_with kind (drop n os)) (first + n) (after_steps (steps_with kind (take n os)) first vs ws) ws
-halves_fit kind os n first vs ws l f =
-    let g = fit_append (steps_with kind (take n os)) (steps_with kind (drop n os)) first vs ws (subst (λ xs. StepsFit xs first vs ws) (with_halves kind os n) f) in
-    (g.0, subst (λ i. StepsFit (steps_with kind (drop n os)) (first + i) (after_steps (steps_with kind (take n os)) first vs ws) ws) (first_count kind os n l) g.1)
+pub halves_fit : (bits : ℕ) (kind : CellKind) (os : List CellOperands) (n first : ℕ) (vs : List ℕ) (ws : List (List ℕ)) → n ≤ length os
+    → StepsFit bits (steps_with kind os) first vs ws
+    → StepsFit bits (steps_with kind (take n os)) first vs ws
+    × StepsFit bits (steps_with kind (drop n os)) (first + n) (after_steps (steps_with kind (take n os)) first vs ws) ws
+halves_fit bits kind os n first vs ws l f =
+    let g = fit_append bits (steps_with kind (take n os)) (steps_with kind (drop n os)) first vs ws (subst (λ xs. StepsFit bits xs first vs ws) (with_halves kind os n) f) in
+    (g.0, subst (λ i. StepsFit bits (steps_with kind (drop n os)) (first + i) (after_steps (steps_with kind (take n os)) first vs ws) ws) (first_count kind os n l) g.1)
 
 -- all that is left after the first n cells
 pub left_all : (os : List CellOperands) (n : ℕ) → take (length os - n) (drop n os) ≡ drop n os
@@ -126,18 +159,18 @@ eights_after kind os first k n vs ws l =
     ∙ halves_after kind (drop k os) n (first + k) vs ws (omega (arith, l, d))
 
 -- where the cells from the k-th on fit, the first n of them do, and then those after them
-pub eights_fit : (kind : CellKind) (os : List CellOperands) (first k n : ℕ) (vs : List ℕ) (ws : List (List ℕ)) → k + n ≤ length os
-    → StepsFit (steps_with kind (drop k os)) (first + k) vs ws
-    → StepsFit (steps_with kind (take n (drop k os))) (first + k) vs ws
-    × StepsFit (steps_with kind (drop (k + n) os)) (first + (k + n)) (after_steps (steps_with kind (take n (drop k os))) (first + k) vs ws) ws
-eights_fit kind os first k n vs ws l f =
+pub eights_fit : (bits : ℕ) (kind : CellKind) (os : List CellOperands) (first k n : ℕ) (vs : List ℕ) (ws : List (List ℕ)) → k + n ≤ length os
+    → StepsFit bits (steps_with kind (drop k os)) (first + k) vs ws
+    → StepsFit bits (steps_with kind (take n (drop k os))) (first + k) vs ws
+    × StepsFit bits (steps_with kind (drop (k + n) os)) (first + (k + n)) (after_steps (steps_with kind (take n (drop k os))) (first + k) vs ws) ws
+eights_fit bits kind os first k n vs ws l f =
     let e : first + k + n ≡ first + (k + n) = omega arith in
     let d = length-drop k os in
     let ws' = after_steps (steps_with kind (take n (drop k os))) (first + k) vs ws in
-    let g = halves_fit kind (drop k os) n (first + k) vs ws (omega (arith, l, d)) f in (
+    let g = halves_fit bits kind (drop k os) n (first + k) vs ws (omega (arith, l, d)) f in (
       g.0,
-      subst (λ i. StepsFit (steps_with kind (drop (k + n) os)) i ws' ws) e
-          (subst (λ xs. StepsFit (steps_with kind xs) (first + k + n) ws' ws) (drop-drop n k os) g.1),
+      subst (λ i. StepsFit bits (steps_with kind (drop (k + n) os)) i ws' ws) e
+          (subst (λ xs. StepsFit bits (steps_with kind xs) (first + k + n) ws' ws) (drop-drop n k os) g.1),
     )
 
 -- the steps from the k-th run on
@@ -150,15 +183,15 @@ runs_more : (rs : List CellRun) (k : ℕ) (r : CellRun)
 runs_more rs k r h e = ap steps_of (drop_more rs k r h) ∙ ap (λ (q : CellRun). run_steps q ++ steps_of (drop (k + 1) rs)) (sym e)
 
 -- a run that stands at k fits, and so do those after it
-pub run_fits : (rs : List CellRun) (k n at : ℕ) (r : CellRun) (vs : List ℕ) (ws : List (List ℕ))
-    → k < length rs → r ≡ get_or rs k r → n ≡ length r.operands.items → StepsFit (steps_of (drop k rs)) at vs ws
-    → StepsFit (steps_with (kind_in r.kind) r.operands.items) at vs ws
-    × StepsFit (steps_of (drop (k + 1) rs)) (at + n) (after_steps (steps_with (kind_in r.kind) r.operands.items) at vs ws) ws
-run_fits rs k n at r vs ws h e m f =
-    let P : List Step → Type 0 = λ l. StepsFit l at vs ws in
-    let g = fit_append (steps_with (kind_in r.kind) r.operands.items) (steps_of (drop (k + 1) rs)) at vs ws (subst P (runs_more rs k r h e) f) in (
+pub run_fits : (bits : ℕ) (rs : List CellRun) (k n at : ℕ) (r : CellRun) (vs : List ℕ) (ws : List (List ℕ))
+    → k < length rs → r ≡ get_or rs k r → n ≡ length r.operands.items → StepsFit bits (steps_of (drop k rs)) at vs ws
+    → StepsFit bits (steps_with (kind_in r.kind) r.operands.items) at vs ws
+    × StepsFit bits (steps_of (drop (k + 1) rs)) (at + n) (after_steps (steps_with (kind_in r.kind) r.operands.items) at vs ws) ws
+run_fits bits rs k n at r vs ws h e m f =
+    let P : List Step → Type 0 = λ l. StepsFit bits l at vs ws in
+    let g = fit_append bits (steps_with (kind_in r.kind) r.operands.items) (steps_of (drop (k + 1) rs)) at vs ws (subst P (runs_more rs k r h e) f) in (
       g.0,
-      subst (λ i. StepsFit (steps_of (drop (k + 1) rs)) (at + i) (after_steps (steps_with (kind_in r.kind) r.operands.items) at vs ws) ws)
+      subst (λ i. StepsFit bits (steps_of (drop (k + 1) rs)) (at + i) (after_steps (steps_with (kind_in r.kind) r.operands.items) at vs ws) ws)
           (with_length (kind_in r.kind) r.operands.items ∙ sym m) g.1,
     )
 
@@ -199,6 +232,8 @@ pub runs_all : (rs : List CellRun) (k at : ℕ) (vs : List ℕ) (ws : List (List
 runs_all rs k at vs ws h = ap (λ l. after_steps (steps_of l) at vs ws) (drop_all k rs h)
 
 pub ruleset eights = (eights_after, eights_fit, cells_all)
+
+pub ruleset cells = (cells_more, cells_fit, cells_all, given, constants_stand)
 
 pub ruleset runs = (constants_stand, with_length, run_length, after_length, runs_all)
 

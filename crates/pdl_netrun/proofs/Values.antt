@@ -1,5 +1,5 @@
 -- The steps of a plan give each cell's place the value of its signal.
-use Rattle.std.proofs.Common.{◌≡◌, ◌≢◌, refl, sym, ap, ap₂, ◌∙◌, subst, ℕ, zero, suc, ◌+◌, ◌-◌, ◌<◌, ◌≤◌, ◌^◌, min, List, [], ◌∷◌, length, get_or, set, drop, map, arith, ⊎_elim}
+use Rattle.std.proofs.Common.{◌≡◌, ◌≢◌, refl, sym, ap, ap₂, ◌∙◌, subst, ℕ, zero, suc, ◌+◌, ◌-◌, ◌<◌, ◌≤◌, ◌^◌, List, [], ◌∷◌, length, get_or, set, drop, map, arith, ⊎_elim}
 use Rattle.std.specs.Prelude.{slice_index}
 use Rattle.std.proofs.lemmas.List.{get_or-set_same, get_or-set_other, drop_more, drop_all}
 use Rattle.std.proofs.lemmas.Bool.{cases_lt, cases_eq}
@@ -21,9 +21,11 @@ use Rattle.pdl_netrun.specs.declared.operation.CellKind.{CellKind}
 use Rattle.pdl_netrun.specs.declared.operation.CellKind.TheVariants as kinds
 use Rattle.pdl_netrun.specs.declared.operation.CellOperands.{CellOperands}
 use Rattle.pdl_netrun.specs.Kinds.{operator_kind}
-use Rattle.pdl_netrun.specs.Steps.{Step, KindFits, StepsFit, AreWords, after_kind, after_step, after_steps}
+use Rattle.pdl_netrun.specs.Steps.{Step, KindFits, StepsFit, AreWords, mask_within, after_kind, after_step, after_steps}
 use Rattle.pdl_netrun.specs.Order.{first_place, place, unplaced, IsPlaced, cell_at, IsTurn, HasTurn, IsOrder}
-use Rattle.pdl_netrun.specs.Plan.{step_of_cell, cell_operands, mask_within, HasValues, HasConstants, IsHeld}
+use Rattle.pdl_netrun.specs.Plan.{step_of_cell, cell_operands, HasValues, HasConstants, IsHeld}
+use Rattle.pdl_netrun.specs.Held.{AreWithin}
+use Rattle.pdl_netrun.proofs.NarrowNets.{width_within}
 use Rattle.pdl_netrun.proofs.Orders.{fits_turn}
 use Rattle.pdl_netrun.proofs.Steps.{after_kind_length}
 use Rattle.pdl_word.proofs.Lists.{either}
@@ -52,24 +54,24 @@ operated op.Lt o at vs ws = refl
 operated op.Shl o at vs ws = refl
 operated op.Shr o at vs ws = refl
 
-operation_fits : (f : BinOp) (o : CellOperands) (vs : List ℕ) (ws : List (List ℕ)) → AreWords o.width o vs
-    → KindFits (operator_kind f) o vs ws
-operation_fits op.Add o vs ws h = h
-operation_fits op.Sub o vs ws h = h
-operation_fits op.Mul o vs ws h = h
-operation_fits op.And o vs ws h = record { first = h.there; second = h.second_there }
-operation_fits op.Or o vs ws h = record { first = h.there; second = h.second_there }
-operation_fits op.Xor o vs ws h = record { first = h.there; second = h.second_there }
-operation_fits op.Eq o vs ws h = record { first = h.there; second = h.second_there }
-operation_fits op.Ne o vs ws h = record { first = h.there; second = h.second_there }
-operation_fits op.Lt o vs ws h = record { first = h.there; second = h.second_there }
-operation_fits op.Shl o vs ws h = h
-operation_fits op.Shr o vs ws h = h
+operation_fits : (bits : ℕ) (f : BinOp) (o : CellOperands) (vs : List ℕ) (ws : List (List ℕ)) → AreWords bits o.width o vs
+    → KindFits bits (operator_kind f) o vs ws
+operation_fits bits op.Add o vs ws h = h
+operation_fits bits op.Sub o vs ws h = h
+operation_fits bits op.Mul o vs ws h = h
+operation_fits bits op.And o vs ws h = record { first = h.there; second = h.second_there }
+operation_fits bits op.Or o vs ws h = record { first = h.there; second = h.second_there }
+operation_fits bits op.Xor o vs ws h = record { first = h.there; second = h.second_there }
+operation_fits bits op.Eq o vs ws h = record { first = h.there; second = h.second_there }
+operation_fits bits op.Ne o vs ws h = record { first = h.there; second = h.second_there }
+operation_fits bits op.Lt o vs ws h = record { first = h.there; second = h.second_there }
+operation_fits bits op.Shl o vs ws h = h
+operation_fits bits op.Shr o vs ws h = h
 
 -- what fits a width fits a greater one
-room : (x high low : ℕ) → x < 2 ^ high → high + low ≤ 64 → x < 2 ^ (64 - low)
-room x high low h l =
-    let e : high ≤ 64 - low = omega arith in
+room : (bits x high low : ℕ) → x < 2 ^ high → high + low ≤ bits → x < 2 ^ (bits - low)
+room bits x high low h l =
+    let e : high ≤ bits - low = omega arith in
     omega (arith, h, pow-le-pow_right {n = 2} (omega arith) e)
 
 -- a choice between two places
@@ -80,13 +82,13 @@ chosen vs x a b zero e l = ap (λ i. slice_index vs (slice_index (b ∷ a ∷ []
 chosen vs x a b (suc zero) e l = ap (λ i. slice_index vs (slice_index (b ∷ a ∷ []) i)) e
 chosen vs x a b (suc (suc n)) e l = absurd (omega arith)
 
--- up to 64 bits
-cut : (w : ℕ) → w ≤ 64 → mask_within w ≡ words.mask w
-cut w h = let e : min w 64 ≡ w = omega (arith, h) in ap words.mask e
-
-module _ (c : Circuit) (s : State) (w : IsWell c) (t : Suits c s) (ps vs : List ℕ) (n : ℕ) (few : n ≤ length vs) (v : HasValues c ps s vs n) where
+module _ (c : Circuit) (s : State) (w : IsWell c) (t : Suits c s) (bits : ℕ) (within : AreWithin bits c) (ps vs : List ℕ) (n : ℕ)
+    (few : n ≤ length vs) (v : HasValues c ps s vs n) where
   bound : (x : Net) → IsPlaced c ps n x → IsBounded s (signal c x)
   bound x h = bounded_at c s w t (length c.cells) (omega arith) x h.there
+
+  most : (x : Net) → IsPlaced c ps n x → (signal c x).width ≤ bits
+  most x h = width_within bits c within x h.there
 
   here : (x : Net) → IsPlaced c ps n x → place c ps x < length vs
   here x h = let e = h.early in omega (arith, e, few)
@@ -98,49 +100,50 @@ module _ (c : Circuit) (s : State) (w : IsWell c) (t : Suits c s) (ps vs : List 
   is_bit : (x : Net) → IsPlaced c ps n x → (signal c x).width ≡ 1 → slice_index vs (place c ps x) < 2
   is_bit x h e = subst (λ (u : ℕ). slice_index vs (place c ps x) < 2 ^ u) e (fits x h)
 
-  -- the step of a cell that fits
-  pub fits_planned : (g : Cell) → FitsIn c (IsPlaced c ps n) (signal c) g → KindFits (step_of_cell c ps g).kind (cell_operands c ps g) vs s.arrays
-  fits_planned (cell.Const b x) h = tt
-  fits_planned (cell.Not a) h = record { mask = cut (signal c a).width (bound a h).high; there = here a h; low = (bound a h).low; high = (bound a h).high; fits = fits a h }
-  fits_planned (cell.Bin o a b) h =
-      operation_fits o (cell_operands c ps (cell.Bin o a b)) vs s.arrays (record {
-        mask = cut (signal c a).width (bound a h.0).high;
+  -- the step of a cell that fits, and has no more than so many bits
+  pub fits_planned : (g : Cell) → FitsIn c (IsPlaced c ps n) (signal c) g → (cell_signal c (signal c) g).width ≤ bits
+      → KindFits bits (step_of_cell c ps g).kind (cell_operands c ps g) vs s.arrays
+  fits_planned (cell.Const b x) h q = tt
+  fits_planned (cell.Not a) h q = record { mask = refl; there = here a h; low = (bound a h).low; high = most a h; fits = fits a h }
+  fits_planned (cell.Bin o a b) h q =
+      operation_fits bits o (cell_operands c ps (cell.Bin o a b)) vs s.arrays (record {
+        mask = refl;
         there = here a h.0;
         second_there = here b h.1;
         low = (bound a h.0).low;
-        high = (bound a h.0).high;
+        high = most a h.0;
         fits = fits a h.0;
         second_fits = subst (λ (u : ℕ). slice_index vs (place c ps b) < 2 ^ u) (sym h.2) (fits b h.1);
       })
-  fits_planned (cell.Mux x a b) h = record {
+  fits_planned (cell.Mux x a b) h q = record {
     count = refl;
     bit_there = here x h.0;
     bit_fits = is_bit x h.0 h.3;
     each = either (λ i. i < length vs) (place c ps b) (place c ps a) (here b h.2) (here a h.1);
   }
-  fits_planned (cell.Slice a high low) h = let b = (bound a h.0).high in let l = h.2 in let o = h.1 in record {
-    mask = (let e : high - low + 1 ≡ high + 1 - low = omega (arith, o) in cut (high - low + 1) (omega (arith, b, l, o)) ∙ ap words.mask e);
+  fits_planned (cell.Slice a high low) h q = let b = most a h.0 in let l = h.2 in let o = h.1 in record {
+    mask = (let e : high - low + 1 ≡ high + 1 - low = omega (arith, o) in ap mask_within e);
     there = here a h.0;
     order = o;
     top = omega (arith, b, l);
   }
-  fits_planned (cell.Cat a b) h =
+  fits_planned (cell.Cat a b) h q =
       let l = (bound a h.0).low in
-      let m = h.2 in
+      let m : (signal c a).width + (signal c b).width ≤ bits = q in
       record {
         there = here a h.0;
         second_there = here b h.1;
         some = (bound b h.1).low;
         room = omega (arith, l, m);
-        fits = room (slice_index vs (place c ps a)) (signal c a).width (signal c b).width (fits a h.0) h.2;
+        fits = room bits (slice_index vs (place c ps a)) (signal c a).width (signal c b).width (fits a h.0) m;
         second_fits = fits b h.1;
       }
-  fits_planned (cell.Rep k a) h = record {
-    word = record { mask = cut (signal c a).width (bound a h.0).high; there = here a h.0; low = (bound a h.0).low; high = (bound a h.0).high; fits = fits a h.0 };
+  fits_planned (cell.Rep k a) h q = record {
+    word = record { mask = refl; there = here a h.0; low = (bound a h.0).low; high = most a h.0; fits = fits a h.0 };
     some = h.1;
-    room = h.2;
+    room = q;
   }
-  fits_planned (cell.Read m a) h =
+  fits_planned (cell.Read m a) h q =
       let e = t.depth m h.0 in
       let f = fits a h.1 in
       let r = h.2 in
@@ -190,8 +193,8 @@ turn_of c order ps j k o l h e = ⊎_elim
     (o.known k h)
 
 -- what a step keeps: the values before it, its own value, and the constants
-module _ (c : Circuit) (s : State) (w : IsWell c) (t : Suits c s) (order ps : List ℕ) (o : IsOrder c order ps) (j : ℕ)
-    (l : j < length order) (vs : List ℕ) (count : length vs ≡ first_place c + length order)
+module _ (c : Circuit) (s : State) (w : IsWell c) (t : Suits c s) (bits : ℕ) (within : AreWithin bits c) (order ps : List ℕ)
+    (o : IsOrder c order ps) (j : ℕ) (l : j < length order) (vs : List ℕ) (count : length vs ≡ first_place c + length order)
     (v : HasValues c ps s vs (first_place c + j)) (f : HasConstants c ps (length vs) vs) where
   abbrev own_cell : Cell
   own_cell = cell_at c (slice_index order j)
@@ -211,9 +214,13 @@ module _ (c : Circuit) (s : State) (w : IsWell c) (t : Suits c s) (order ps : Li
   fits_own : FitsIn c (IsPlaced c ps at) (signal c) own_cell
   fits_own = fits_turn c ps (slice_index order j) at w turn
 
+  own_within : (cell_signal c (signal c) own_cell).width ≤ bits
+  own_within =
+      subst (λ (x : Signal). x.width ≤ bits) (signal_cell c w.cells (slice_index order j) turn.there) (within.cells (slice_index order j) turn.there)
+
   -- the step of the cell at this turn reads places that are there, with words as wide as its kind takes them to be
-  pub step_fits : KindFits (step_of_cell c ps own_cell).kind (cell_operands c ps own_cell) vs s.arrays
-  step_fits = fits_planned c s w t ps vs at (omega (arith, count, l)) v own_cell fits_own
+  pub step_fits : KindFits bits (step_of_cell c ps own_cell).kind (cell_operands c ps own_cell) vs s.arrays
+  step_fits = fits_planned c s w t bits within ps vs at (omega (arith, count, l)) v own_cell fits_own own_within
 
   held : IsHeld own_cell (slice_index vs at)
   held =
@@ -221,7 +228,7 @@ module _ (c : Circuit) (s : State) (w : IsWell c) (t : Suits c s) (order ps : Li
 
   own : slice_index new at ≡ (signal c (CellNet (slice_index order j))).value s
   own =
-      after_planned c s w t ps vs at (omega (arith, count, l)) v own_cell at fits_own inside held
+      after_planned c s w t bits within ps vs at (omega (arith, count, l)) v own_cell at fits_own inside held
       ∙ ap (λ (x : Signal). x.value s) (sym (signal_cell c w.cells (slice_index order j) turn.there))
 
   other : (i : ℕ) → i ≢ at → slice_index new i ≡ slice_index vs i
@@ -263,8 +270,8 @@ module _ (c : Circuit) (s : State) (w : IsWell c) (t : Suits c s) (order ps : Li
   step_constants = record { each = λ k h b. kept k h (omega (arith, b, step_count)) }
 
 -- what the steps from a turn on do
-pub record IsWalked (c : Circuit) (ps : List ℕ) (s : State) (vs : List ℕ) (steps : List Step) (at : ℕ) : Type 0 where
-  pub fit : StepsFit steps at vs s.arrays
+pub record IsWalked (bits : ℕ) (c : Circuit) (ps : List ℕ) (s : State) (vs : List ℕ) (steps : List Step) (at : ℕ) : Type 0 where
+  pub fit : StepsFit bits steps at vs s.arrays
   pub values : HasValues c ps s (after_steps steps at vs s.arrays) (length vs)
   pub constants : HasConstants c ps (length vs) (after_steps steps at vs s.arrays)
   pub count : length (after_steps steps at vs s.arrays) ≡ length vs
@@ -273,12 +280,12 @@ pub record IsWalked (c : Circuit) (ps : List ℕ) (s : State) (vs : List ℕ) (s
 abbrev pub order_steps : Circuit → List ℕ → List ℕ → List Step
 order_steps c ps order = map (λ k. step_of_cell c ps (cell_at c k)) order
 
-walked_from : (c : Circuit) (s : State) → IsWell c → Suits c s → (order ps : List ℕ) → IsOrder c order ps → (n j : ℕ)
+walked_from : (c : Circuit) (s : State) → IsWell c → Suits c s → (bits : ℕ) → AreWithin bits c → (order ps : List ℕ) → IsOrder c order ps → (n j : ℕ)
     → n + j ≡ length order → (vs : List ℕ) → length vs ≡ first_place c + length order
     → HasValues c ps s vs (first_place c + j) → HasConstants c ps (length vs) vs
-    → IsWalked c ps s vs (order_steps c ps (drop j order)) (first_place c + j)
-walked_from c s w t order ps o zero j e vs m v f =
-    let P : List ℕ → Type 0 = λ l. IsWalked c ps s vs (order_steps c ps l) (first_place c + j) in
+    → IsWalked bits c ps s vs (order_steps c ps (drop j order)) (first_place c + j)
+walked_from c s w t bits within order ps o zero j e vs m v f =
+    let P : List ℕ → Type 0 = λ l. IsWalked bits c ps s vs (order_steps c ps l) (first_place c + j) in
     subst P (sym (drop_all j order (omega (arith, e))))
     (record {
       fit = tt;
@@ -286,21 +293,21 @@ walked_from c s w t order ps o zero j e vs m v f =
       constants = f;
       count = refl;
     })
-walked_from c s w t order ps o (suc n) j e vs m v f =
+walked_from c s w t bits within order ps o (suc n) j e vs m v f =
     let l : j < length order = omega (arith, e) in
     let x = slice_index order j in
     let new = after_step (step_of_cell c ps (cell_at c x)) (first_place c + j) vs s.arrays in
-    let k = step_count c s w t order ps o j l vs m v f in
+    let k = step_count c s w t bits within order ps o j l vs m v f in
     let i : suc (first_place c + j) ≡ first_place c + (j + 1) = omega arith in
     let rest =
-    walked_from c s w t order ps o n (j + 1) (omega (arith, e)) new (k ∙ m)
-    (subst (λ (a : ℕ). HasValues c ps s new a) i (step_values c s w t order ps o j l vs m v f))
-    (step_constants c s w t order ps o j l vs m v f) in
-    let Q : ℕ → Type 0 = λ a. IsWalked c ps s new (order_steps c ps (drop (j + 1) order)) a in
+    walked_from c s w t bits within order ps o n (j + 1) (omega (arith, e)) new (k ∙ m)
+    (subst (λ (a : ℕ). HasValues c ps s new a) i (step_values c s w t bits within order ps o j l vs m v f))
+    (step_constants c s w t bits within order ps o j l vs m v f) in
+    let Q : ℕ → Type 0 = λ a. IsWalked bits c ps s new (order_steps c ps (drop (j + 1) order)) a in
     let r = subst Q (sym i) rest in
-    let P : List ℕ → Type 0 = λ xs. IsWalked c ps s vs (order_steps c ps xs) (first_place c + j) in
+    let P : List ℕ → Type 0 = λ xs. IsWalked bits c ps s vs (order_steps c ps xs) (first_place c + j) in
     subst P (sym (drop_more order j 0 l)) (record {
-      fit = (step_fits c s w t order ps o j l vs m v f, r.fit);
+      fit = (step_fits c s w t bits within order ps o j l vs m v f, r.fit);
       values = subst (λ (a : ℕ). HasValues c ps s (after_steps (order_steps c ps (drop (j + 1) order)) (suc (first_place c + j)) new s.arrays) a) k r.values;
       constants =
           subst (λ (a : ℕ). HasConstants c ps a (after_steps (order_steps c ps (drop (j + 1) order)) (suc (first_place c + j)) new s.arrays)) k r.constants;
@@ -308,10 +315,10 @@ walked_from c s w t order ps o (suc n) j e vs m v f =
     })
 
 -- the steps of all cells in their order walk the values from the first place on
-pub walked : (c : Circuit) (s : State) → IsWell c → Suits c s → (order ps : List ℕ) → IsOrder c order ps → (vs : List ℕ)
+pub walked : (c : Circuit) (s : State) → IsWell c → Suits c s → (bits : ℕ) → AreWithin bits c → (order ps : List ℕ) → IsOrder c order ps → (vs : List ℕ)
     → length vs ≡ first_place c + length order → HasValues c ps s vs (first_place c) → HasConstants c ps (length vs) vs
-    → IsWalked c ps s vs (order_steps c ps order) (first_place c)
-walked c s w t order ps o vs m v f =
+    → IsWalked bits c ps s vs (order_steps c ps order) (first_place c)
+walked c s w t bits within order ps o vs m v f =
     let e : first_place c + 0 ≡ first_place c = omega arith in
-    subst (λ (a : ℕ). IsWalked c ps s vs (order_steps c ps order) a) e
-    (walked_from c s w t order ps o (length order) 0 (omega arith) vs m (subst (λ (a : ℕ). HasValues c ps s vs a) (sym e) v) f)
+    subst (λ (a : ℕ). IsWalked bits c ps s vs (order_steps c ps order) a) e
+    (walked_from c s w t bits within order ps o (length order) 0 (omega arith) vs m (subst (λ (a : ℕ). HasValues c ps s vs a) (sym e) v) f)

@@ -3,6 +3,7 @@ pub mod Steps
 pub mod Kinds
 pub mod Order
 pub mod Plan
+pub mod Held
 pub mod Places
 pub mod Outside
 pub mod Sim

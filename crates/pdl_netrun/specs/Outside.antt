@@ -61,6 +61,14 @@ CommitsFit c (r ∷ w ∷ more) (i ∷ is) =
     × CommitsFit c more is
 CommitsFit c _ _ = ⊥
 
+-- what a memory of any name commits, first and second in a cycle, has an address of at most 16 bits, in every state that suits
+abbrev pub AddressesFit : Circuit → Type 0
+AddressesFit c = (mem : List ℕ) → ShowsWords c (codes "ca_" ++ mem) 16 × ShowsWords c (codes "ca2_" ++ mem) 16
+
+-- and so it has where the ports show this
+abbrev pub AddressesSeen : Circuit → List ℕ → Type 0
+AddressesSeen c ports = (mem : List ℕ) → (port_value c ports (codes "ca_" ++ mem) < 2 ^ 16) × (port_value c ports (codes "ca2_" ++ mem) < 2 ^ 16)
+
 -- these memories stand outside the circuit with ports by these names
 pub record AreOutside (c : Circuit) (infos : List MemInfo) (ms : List Outside) : Type 0 where
   pub commits : map (λ m. m.commits) ms ≡ map (λ i. places_of c i.name) infos

@@ -1,19 +1,18 @@
 -- The plan of a circuit: what each cell and each write port reads, where the cells have these places.
-use Rattle.std.specs.Prelude.{◌≡◌, ℕ, suc, ◌+◌, ◌-◌, ◌<◌, min, List, [], ◌∷◌, ◌++◌, map, length, slice_index}
+use Rattle.std.specs.Prelude.{◌≡◌, ℕ, suc, ◌+◌, ◌-◌, ◌<◌, List, [], ◌∷◌, ◌++◌, map, length, slice_index}
 use Rattle.pdl_net.specs.declared.Net.{Net}
 use Rattle.pdl_net.specs.declared.Cell.{Cell}
 use Rattle.pdl_net.specs.declared.Cell.TheVariants as cell
 use Rattle.pdl_net.specs.declared.WritePort.{WritePort}
 use Rattle.pdl_net.specs.declared.Array.{Array}
 use Rattle.pdl_net.specs.Circuit.{Circuit, State}
-use Rattle.pdl_word.specs.Words as words
 use Rattle.pdl_net.specs.Meaning.{signal}
 use Rattle.pdl_netrun.specs.declared.operation.CellKind.{CellKind}
 use Rattle.pdl_netrun.specs.declared.operation.CellOperands.{CellOperands}
 use Rattle.pdl_netrun.specs.declared.order.CellOrder.{CellOrder}
 use Rattle.pdl_netrun.specs.declared.writes.PlannedWrite.{PlannedWrite}
 use Rattle.pdl_netrun.specs.Kinds.{cell_kind}
-use Rattle.pdl_netrun.specs.Steps.{Step, reading_at}
+use Rattle.pdl_netrun.specs.Steps.{Step, mask_within, reading_at}
 use Rattle.pdl_netrun.specs.Order.{place, IsPlaced, IsNetThere, cell_at}
 
 -- STEPS
@@ -21,10 +20,6 @@ use Rattle.pdl_netrun.specs.Order.{place, IsPlaced, IsNetThere, cell_at}
 -- the step of a cell of this kind, with what it reads
 abbrev pub step_of : CellKind → CellOperands → Step
 step_of k o = record { kind = k; operands = o }
-
--- the largest word of so many bits, and of no more than 64
-abbrev pub mask_within : ℕ → ℕ
-mask_within w = words.mask (min w 64)
 
 -- what a cell reads
 abbrev pub cell_operands : Circuit → List ℕ → Cell → CellOperands

@@ -1,4 +1,5 @@
 -- The kind of a run's cells.
+use Rattle.std.specs.Prelude.{Bool, true, false}
 use Rattle.pdl_netrun.specs.declared.operation.CellKind.{CellKind}
 use Rattle.pdl_netrun.specs.declared.operation.CellKind.TheVariants as kinds
 use Rattle.pdl_netrun.specs.declared.run_kind.RunKind.{RunKind}
@@ -42,3 +43,8 @@ kind_in (Counting (Count count.Mul)) = kinds.Mul
 kind_in (Counting (Turn turn.Complement)) = kinds.Complement
 kind_in (Counting (Turn turn.ShiftLeft)) = kinds.ShiftLeft
 kind_in (Counting (Turn turn.ShiftRight)) = kinds.ShiftRight
+
+-- whether the cells of a run of this kind are constants
+abbrev pub is_constant : RunKind → Bool
+is_constant (Taking (Word word.Constant)) = true
+is_constant _ = false

@@ -1,5 +1,5 @@
 -- What steps do to a list of values, where the arrays hold these words.
-use Rattle.std.specs.Prelude.{◌≡◌, ℕ, suc, ◌+◌, ◌-◌, ◌*◌, ◌^◌, ◌<◌, ◌≤◌, ◌==◌, List, [], ◌∷◌, ◌++◌, length, map, slice_index, slice_index_or, slice_set, Vec, All, if◌then◌else◌}
+use Rattle.std.specs.Prelude.{◌≡◌, ℕ, suc, ◌+◌, ◌-◌, ◌*◌, ◌^◌, ◌<◌, ◌≤◌, ◌==◌, min, List, [], ◌∷◌, ◌++◌, length, map, slice_index, slice_index_or, slice_set, Vec, All, if◌then◌else◌}
 use Rattle.std.specs.declared.alloc.Global.{Global}
 use Rattle.pdl_word.specs.Words as words
 use Rattle.pdl_netrun.specs.declared.operation.CellKind.{CellKind}
@@ -60,12 +60,16 @@ kind_value Join o vs ws = words.cat o.low (first o vs) (second o vs)
 kind_value Repeat o vs ws = words.rep o.width o.count (first o vs)
 kind_value Look o vs ws = slice_index (slice_index_or ws o.selector []) (first o vs)
 
--- the first place is there, and holds a word of w bits, of which the mask is the largest
-pub record IsWord (w : ℕ) (o : CellOperands) (vs : List ℕ) : Type 0 where
-  pub mask : o.mask ≡ words.mask w
+-- the largest word of so many bits, and of no more than 64
+abbrev pub mask_within : ℕ → ℕ
+mask_within w = words.mask (min w 64)
+
+-- the first place is there, and holds a word of w bits, which are no more than so many; of up to 64 the mask is the largest word
+pub record IsWord (bits w : ℕ) (o : CellOperands) (vs : List ℕ) : Type 0 where
+  pub mask : o.mask ≡ mask_within w
   pub there : first_of o < length vs
   pub low : 1 ≤ w
-  pub high : w ≤ 64
+  pub high : w ≤ bits
   pub fits : first o vs < 2 ^ w
 
 -- both places are there
@@ -73,13 +77,13 @@ pub record AreThere (o : CellOperands) (vs : List ℕ) : Type 0 where
   pub first : first_of o < length vs
   pub second : second_of o < length vs
 
--- both places are there and hold words of w bits, of which the mask is the largest
-pub record AreWords (w : ℕ) (o : CellOperands) (vs : List ℕ) : Type 0 where
-  pub mask : o.mask ≡ words.mask w
+-- both places are there and hold words of w bits, which are no more than so many; of up to 64 the mask is the largest word
+pub record AreWords (bits w : ℕ) (o : CellOperands) (vs : List ℕ) : Type 0 where
+  pub mask : o.mask ≡ mask_within w
   pub there : first_of o < length vs
   pub second_there : second_of o < length vs
   pub low : 1 ≤ w
-  pub high : w ≤ 64
+  pub high : w ≤ bits
   pub fits : first o vs < 2 ^ w
   pub second_fits : second o vs < 2 ^ w
 
@@ -96,48 +100,48 @@ pub record IsAddress (o : CellOperands) (vs : List ℕ) (ws : List (List ℕ)) :
   pub array : o.selector < length ws
   pub within : first o vs < length (slice_index_or ws o.selector [])
 
--- the first place's word is joined above another that leaves it room
-pub record AreJoined (o : CellOperands) (vs : List ℕ) : Type 0 where
+-- the first place's word is joined above another that leaves it room in so many bits
+pub record AreJoined (bits : ℕ) (o : CellOperands) (vs : List ℕ) : Type 0 where
   pub there : first_of o < length vs
   pub second_there : second_of o < length vs
   pub some : 1 ≤ o.low
-  pub room : o.low < 64
-  pub fits : first o vs < 2 ^ (64 - o.low)
+  pub room : o.low < bits
+  pub fits : first o vs < 2 ^ (bits - o.low)
   pub second_fits : second o vs < 2 ^ o.low
 
--- the first place is there, the bits from high down to low are bits of a word, and the mask is the largest word of as many
-pub record IsSliced (o : CellOperands) (vs : List ℕ) : Type 0 where
-  pub mask : o.mask ≡ words.mask (o.high + 1 - o.low)
+-- the first place is there, and the bits from high down to low are among so many; of up to 64 the mask is the largest word
+pub record IsSliced (bits : ℕ) (o : CellOperands) (vs : List ℕ) : Type 0 where
+  pub mask : o.mask ≡ mask_within (o.high + 1 - o.low)
   pub there : first_of o < length vs
   pub order : o.low ≤ o.high
-  pub top : o.high < 64
+  pub top : o.high < bits
 
--- the first place's word is repeated within 64 bits
-pub record IsRepeated (o : CellOperands) (vs : List ℕ) : Type 0 where
-  pub word : IsWord o.width o vs
+-- the first place's word is repeated within so many bits
+pub record IsRepeated (bits : ℕ) (o : CellOperands) (vs : List ℕ) : Type 0 where
+  pub word : IsWord bits o.width o vs
   pub some : 1 ≤ o.count
-  pub room : o.count * o.width ≤ 64
+  pub room : o.count * o.width ≤ bits
 
--- a cell of this kind reads places that are there, and its words are as wide as it takes them to be
-abbrev pub KindFits : CellKind → CellOperands → List ℕ → List (List ℕ) → Type 0
-KindFits Constant o vs ws = Unit {0}
-KindFits Complement o vs ws = IsWord o.width o vs
-KindFits Add o vs ws = AreWords o.width o vs
-KindFits Sub o vs ws = AreWords o.width o vs
-KindFits Mul o vs ws = AreWords o.width o vs
-KindFits And o vs ws = AreThere o vs
-KindFits Or o vs ws = AreThere o vs
-KindFits Xor o vs ws = AreThere o vs
-KindFits Equal o vs ws = AreThere o vs
-KindFits Differ o vs ws = AreThere o vs
-KindFits Less o vs ws = AreThere o vs
-KindFits ShiftLeft o vs ws = AreWords o.width o vs
-KindFits ShiftRight o vs ws = AreWords o.width o vs
-KindFits Choose o vs ws = IsChoice o vs
-KindFits Slice o vs ws = IsSliced o vs
-KindFits Join o vs ws = AreJoined o vs
-KindFits Repeat o vs ws = IsRepeated o vs
-KindFits Look o vs ws = IsAddress o vs ws
+-- a cell of this kind reads places that are there, and its words, of no more than so many bits, are as wide as it takes them to be
+abbrev pub KindFits : ℕ → CellKind → CellOperands → List ℕ → List (List ℕ) → Type 0
+KindFits bits Constant o vs ws = Unit {0}
+KindFits bits Complement o vs ws = IsWord bits o.width o vs
+KindFits bits Add o vs ws = AreWords bits o.width o vs
+KindFits bits Sub o vs ws = AreWords bits o.width o vs
+KindFits bits Mul o vs ws = AreWords bits o.width o vs
+KindFits bits And o vs ws = AreThere o vs
+KindFits bits Or o vs ws = AreThere o vs
+KindFits bits Xor o vs ws = AreThere o vs
+KindFits bits Equal o vs ws = AreThere o vs
+KindFits bits Differ o vs ws = AreThere o vs
+KindFits bits Less o vs ws = AreThere o vs
+KindFits bits ShiftLeft o vs ws = AreWords bits o.width o vs
+KindFits bits ShiftRight o vs ws = AreWords bits o.width o vs
+KindFits bits Choose o vs ws = IsChoice o vs
+KindFits bits Slice o vs ws = IsSliced bits o vs
+KindFits bits Join o vs ws = AreJoined bits o vs
+KindFits bits Repeat o vs ws = IsRepeated bits o vs
+KindFits bits Look o vs ws = IsAddress o vs ws
 
 -- the values after a cell of this kind gave its value to a place; a constant's stands
 abbrev pub after_kind : CellKind → CellOperands → ℕ → List ℕ → List (List ℕ) → List ℕ
@@ -169,10 +173,10 @@ abbrev pub after_steps : List Step → ℕ → List ℕ → List (List ℕ) → 
 after_steps [] at vs ws = vs
 after_steps (x ∷ xs) at vs ws = after_steps xs (suc at) (after_step x at vs ws) ws
 
--- each step fits when its turn comes
-abbrev pub StepsFit : List Step → ℕ → List ℕ → List (List ℕ) → Type 0
-StepsFit [] at vs ws = Unit {0}
-StepsFit (x ∷ xs) at vs ws = KindFits x.kind x.operands vs ws × StepsFit xs (suc at) (after_step x at vs ws) ws
+-- each step fits when its turn comes, with words of no more than so many bits
+abbrev pub StepsFit : ℕ → List Step → ℕ → List ℕ → List (List ℕ) → Type 0
+StepsFit bits [] at vs ws = Unit {0}
+StepsFit bits (x ∷ xs) at vs ws = KindFits bits x.kind x.operands vs ws × StepsFit bits xs (suc at) (after_step x at vs ws) ws
 
 -- WRITES
 

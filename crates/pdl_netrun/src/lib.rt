@@ -3,7 +3,12 @@
 //! The layer above may use `Sim`, and `count_delayed`; its plan of places and runs is its own affair.
 #![tactic(auto)]
 
+mod cycle_plan;
+mod held;
 mod kinds;
+mod narrow_cycle;
+mod narrow_lists;
+mod narrow_words;
 mod operation;
 mod operations;
 mod order;
@@ -14,6 +19,8 @@ mod run_kind;
 mod sim;
 mod start;
 mod walk;
+mod wide_cycle;
+mod wide_walk;
 mod widths;
 mod writes;
 

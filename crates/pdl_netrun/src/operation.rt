@@ -34,7 +34,7 @@ pub struct CellOperands {
     pub places: [u32; 2],
     /// The place of a choice's bit, or the number of the array.
     pub selector: u32,
-    /// The width of the words in bits, 1 to 64.
+    /// The width of the words in bits.
     pub width: u8,
     /// The highest bit of a slice.
     pub high: u8,
@@ -42,7 +42,7 @@ pub struct CellOperands {
     pub low: u8,
     /// How often a word is repeated.
     pub count: u8,
-    /// The largest word of as many bits as `width` says, or as a slice has, by which a value is cut to them.
+    /// The largest word of as many bits as `width` says, or as a slice has, by which a value is cut to them; of no more than 64.
     pub mask: u64,
 }
 
@@ -86,7 +86,7 @@ impl CellOperands {
     }
 }
 
-/// How a kind of cells that aren't constants makes its value.
+/// How a kind of cells that aren't constants makes its value, of at most 64 bits.
 ///
 /// A loop over cells of one kind is generic over it, so that it asks for the kind once and not for each cell.
 pub trait CellOperation {
@@ -98,7 +98,7 @@ pub trait CellOperation {
 
     /// The value that a cell makes.
     fn value(operands: &CellOperands, values: &[u64], arrays: &[Vec<u64>]) -> u64
-        requires { KindFits kind operands.now values.now (array_words arrays.now) }
+        requires { KindFits 64 kind operands.now values.now (array_words arrays.now) }
         ensures { result ≡ kind_value kind operands.now values.now (array_words arrays.now) };
 
     /// A cell's place has this value afterwards.

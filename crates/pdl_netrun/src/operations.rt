@@ -1,40 +1,18 @@
 // The kinds of cells, one by one.
 
-ghost use Rattle.std.specs.Prelude.{◌≡◌, ◌<◌, ◌≤◌, ◌%◌, ◌^◌, refl};
-ghost use Rattle.pdl_word.specs.Words.{rep};
+ghost use Rattle.std.specs.Prelude.{refl};
 ghost use Rattle.pdl_netrun.specs.Steps.{KindFits, kind_value, array_words};
 ghost use Rattle.pdl_netrun.specs.declared.operation.CellKind.TheVariants as kinds;
 
+use crate::narrow_words::{join, low_bits, repeat, repeat_bit};
 use crate::operation::{CellKind, CellOperands, CellOperation};
-
-/// The lowest `width` bits of a word.
-#[tactic(auto, using(crate::proofs::Bits::top_off))]
-fn low_bits(width: u8, word: u64) -> u64
-    requires low { 1 ≤ width }
-    requires high { width ≤ 64 }
-    ensures { result ≡ word % 2 ^ width }
-{
-    let above = 64 - width;
-    (word << above) >> above
-}
-
-/// A bit, so many times.
-#[tactic(auto, using(crate::proofs::Bits::no_bits, crate::proofs::Bits::all_bits))]
-fn repeated_bit(count: u8, bit: u64) -> u64
-    requires some { 1 ≤ count }
-    requires few { count ≤ 64 }
-    requires bit { bit < 2 }
-    ensures { result ≡ rep 1 count bit }
-{
-    if bit == 0 { 0 } else { pdl_word::mask(count) }
-}
 
 pub struct Complement;
 
 impl CellOperation for Complement {
     ghost kind = { kinds.Complement };
 
-    #[tactic(auto, unfolding(pdl_word::specs::Words::complement, pdl_word::specs::Words::mask))]
+    #[tactic(auto, using(crate::proofs::Bits::complemented))]
     fn value(operands: &CellOperands, values: &[u64], arrays: &[Vec<u64>]) -> u64 {
         operands.mask - operands.first(values)
     }
@@ -125,8 +103,9 @@ pub struct Equal;
 impl CellOperation for Equal {
     ghost kind = { kinds.Equal };
 
+    #[tactic(auto, unfolding(pdl_word::specs::Words::equal))]
     fn value(operands: &CellOperands, values: &[u64], arrays: &[Vec<u64>]) -> u64 {
-        pdl_word::equal(operands.first(values), operands.second(values))
+        u64::from(operands.first(values) == operands.second(values))
     }
 
     ghost acts = { λ o at vs ws. refl };
@@ -137,8 +116,9 @@ pub struct Differ;
 impl CellOperation for Differ {
     ghost kind = { kinds.Differ };
 
+    #[tactic(auto, unfolding(pdl_word::specs::Words::differ))]
     fn value(operands: &CellOperands, values: &[u64], arrays: &[Vec<u64>]) -> u64 {
-        pdl_word::differ(operands.first(values), operands.second(values))
+        u64::from(operands.first(values) != operands.second(values))
     }
 
     ghost acts = { λ o at vs ws. refl };
@@ -149,8 +129,9 @@ pub struct Less;
 impl CellOperation for Less {
     ghost kind = { kinds.Less };
 
+    #[tactic(auto, unfolding(pdl_word::specs::Words::less))]
     fn value(operands: &CellOperands, values: &[u64], arrays: &[Vec<u64>]) -> u64 {
-        pdl_word::less(operands.first(values), operands.second(values))
+        u64::from(operands.first(values) < operands.second(values))
     }
 
     ghost acts = { λ o at vs ws. refl };
@@ -227,7 +208,7 @@ impl CellOperation for Join {
     ghost kind = { kinds.Join };
 
     fn value(operands: &CellOperands, values: &[u64], arrays: &[Vec<u64>]) -> u64 {
-        pdl_word::cat(
+        join(
             operands.low,
             operands.first(values),
             operands.second(values),
@@ -246,9 +227,9 @@ impl CellOperation for Repeat {
         let word = operands.first(values);
         // One bit, as the sign of a number, is what is repeated most.
         if operands.width == 1 {
-            repeated_bit(operands.count, word)
+            repeat_bit(operands.count, word)
         } else {
-            pdl_word::rep(operands.width, operands.count, word)
+            repeat(operands.width, operands.count, word)
         }
     }
 

@@ -8,9 +8,10 @@ ghost use Rattle.pdl_net.specs.Width.{HasWidths};
 ghost use Rattle.pdl_netrun.specs.Order.{IsOrderOf, cell_of, place_in, order_circuit};
 ghost use Rattle.pdl_netrun.specs.RunKinds.{kind_in};
 ghost use Rattle.pdl_netrun.specs.Steps.{steps_of, steps_with};
-ghost use Rattle.pdl_netrun.specs.Plan.{cell_operands, step_of, step_of_cell, planned_write, planned_writes, held_at_start, mask_within as mask_of, IsWriteThere};
+ghost use Rattle.pdl_netrun.specs.Plan.{cell_operands, step_of, step_of_cell, planned_write, planned_writes, held_at_start, IsWriteThere};
 
 use crate::kinds::kind_of;
+use crate::narrow_words::mask_within;
 use crate::operation::{CellKind, CellOperands};
 use crate::order::CellOrder;
 use crate::run_kind::run_kind;
@@ -19,10 +20,11 @@ use crate::widths::width_of;
 use crate::writes::PlannedWrite;
 use pdl_kit::NoMemory;
 use pdl_net::{Cell, Dir, Netlist, WritePort};
+use pdl_word::Word;
 use std::alloc::Global;
 
 /// Adds the values of all cells at the start, in the order of their places: a constant's value, and 0 for any other cell.
-pub fn put_constants(n: &Netlist, order: &CellOrder, values: &mut Vec<u64>) -> Result<(), NoMemory>
+pub fn put_constants(n: &Netlist, order: &CellOrder, values: &mut Vec<Word>) -> Result<(), NoMemory>
     requires order { IsOrderOf order.now }
     requires net { order.now.net.now ≡ n.now }
     ensures { OnOk result (values.new.items ≡ values.old.items
@@ -35,7 +37,7 @@ pub fn put_constants(n: &Netlist, order: &CellOrder, values: &mut Vec<u64>) -> R
     Ok(())
 }
 
-fn at_start(cell: Cell) -> u64
+fn at_start(cell: Cell) -> Word
     ensures { result ≡ held_at_start cell }
 {
     match cell {
@@ -45,7 +47,7 @@ fn at_start(cell: Cell) -> u64
 }
 
 /// The reset value of each register.
-pub fn all_resets(alloc: Global, n: &Netlist) -> Result<Vec<u64>, NoMemory>
+pub fn all_resets(alloc: Global, n: &Netlist) -> Result<Vec<Word>, NoMemory>
     ensures { IfOk result (λ v. v.items ≡ map (λ r. r.reset) n.now.regs) }
 {
     let mut resets = Vec::new(alloc);
@@ -131,18 +133,6 @@ fn push_step(
     }
     run.operands.push(operands)?;
     Ok(())
-}
-
-/// The largest word of so many bits, and of no more than 64.
-#[tactic(auto, using(pdl_word::proofs::Masks::one_shifted), unfolding(pdl_word::specs::Words::mask))]
-fn mask_within(width: u8) -> u64
-    ensures { result ≡ mask_of width }
-{
-    if width < 64 {
-        (1 << width) - 1
-    } else {
-        u64::MAX
-    }
 }
 
 /// What a cell reads, at the places of an order.

@@ -1,28 +1,29 @@
 // The simulator.
 
-ghost use Rattle.std.specs.Prelude.{◌≡◌, ◌+◌, ◌++◌, ◌<◌, ◌≤◌, drop, length, slice_index, take, IfOk};
+ghost use Rattle.std.specs.Prelude.{◌≡◌, ◌<◌, ◌^◌, length, slice_index, IfOk};
 ghost use Rattle.pdl_net.specs.Circuit.{circuit_of, outputs_of};
 ghost use Rattle.pdl_net.specs.Well.{IsWell};
 ghost use Rattle.pdl_net.specs.Run.{delayed_mems, committed_by, committed2_by, value_at};
 ghost use Rattle.pdl_net.specs.Pipe.{IsWellFormed};
 ghost use Rattle.pdl_image.specs.Images.{IsImage};
-ghost use Rattle.pdl_netrun.specs.Outside.{AreOutside, commit_at, stores_of};
+ghost use Rattle.pdl_netrun.specs.Outside.{AddressesFit, AreOutside, commit_at, stores_of};
 ghost use Rattle.pdl_netrun.specs.Sim.{run_at, run_at_start, run_after};
 ghost use Rattle.pdl_netrun.specs.Steps.{array_words};
 ghost use Rattle.pdl_netrun.specs.Order.{IsOrderOf, AllPlaced};
 ghost use Rattle.pdl_net.specs.Holds.{Holds};
 
+use crate::cycle_plan::{CyclePlan, cycle_plan};
+use crate::held::HeldWords;
 use crate::order::{CellOrder, order_of};
 use crate::outside::{Outside, answer_all, step_all};
 use crate::places::{CommitPlaces, MemoryPlaces, all_places};
-use crate::plan::{all_drivers, all_nexts, all_resets, all_runs, all_writes, put_constants};
-use crate::start::{all_arrays, all_outside, count_delayed};
-use crate::walk::{CellRun, read_place, read_places, walk_runs};
+use crate::plan::{all_drivers, all_resets};
+use crate::start::{all_arrays, all_outside, count_delayed, first_held};
 use crate::widths::all_widths;
-use crate::writes::{PlannedWrite, write_words};
 use pdl_image::Image;
 use pdl_kit::NoMemory;
 use pdl_net::Netlist;
+use pdl_word::Word;
 use std::alloc::Global;
 use std::marker::Model;
 
@@ -32,22 +33,15 @@ use std::marker::Model;
 /// Between cycles it holds the values of registers and arrays at the start of the next cycle, and those of all nets in the last one.
 pub struct Sim<'a> {
     net: &'a Netlist,
-    first_reg: usize,
-    first_cell: usize,
-    runs: Vec<CellRun>,
-    nexts: Vec<u32>,
+    plan: CyclePlan,
+    /// The places of the outputs' values.
     drivers: Vec<u32>,
-    writes: Vec<PlannedWrite>,
     commits: Vec<MemoryPlaces>,
-    /// The values of all nets in the last cycle.
-    values: Vec<u64>,
-    arrays: Vec<Vec<u64>>,
+    held: HeldWords,
     /// The delayed memories, in the order of their inputs.
     outside: Vec<Outside>,
     /// Room for the values of the inputs.
-    inputs: Vec<u64>,
-    /// The values of the registers in the next cycle.
-    next: Vec<u64>,
+    inputs: Vec<Word>,
     /// Whether there was a cycle.
     shown: bool,
     /// Whether some request waited in the last cycle.
@@ -59,18 +53,12 @@ impl Drop for Sim<'_> {
     fn drop(self) {
         let Sim {
             net: _,
-            first_reg: _,
-            first_cell: _,
-            runs: _,
-            nexts: _,
+            plan: _,
             drivers: _,
-            writes: _,
             commits: _,
-            values: _,
-            arrays: _,
+            held: _,
             outside: _,
             inputs: _,
-            next: _,
             shown: _,
             waits: _,
         } = self;
@@ -109,8 +97,8 @@ impl<'a> Sim<'a> {
         alloc: Global,
         net: &'a Netlist,
         order: &CellOrder,
-        next: Vec<u64>,
-        arrays: Vec<Vec<u64>>,
+        next: Vec<Word>,
+        arrays: Vec<Vec<Word>>,
         outside: Vec<Outside>,
     ) -> Result<Sim<'a>, NoMemory>
         requires well { IsWell (circuit_of net.now) }
@@ -119,34 +107,24 @@ impl<'a> Sim<'a> {
         requires same { order.now.net.now ≡ net.now }
         requires all { AllPlaced order.now }
         requires holds { Holds (circuit_of net.now) next.items (array_words arrays.items) }
+        requires addresses { AddressesFit (circuit_of net.now) }
         ensures { IfOk result (λ sim. sim ≡ run_at net.now next.items (array_words arrays.items)
             (stores_of outside.items)) }
     {
         let widths = all_widths(alloc, net)?;
-        let runs = all_runs(alloc, net, order, &widths)?;
-        let nexts = all_nexts(alloc, net, order)?;
+        let plan = cycle_plan(alloc, net, order, &widths)?;
         let drivers = all_drivers(alloc, net, order)?;
-        let writes = all_writes(alloc, net, order)?;
         let commits = all_places(alloc, net)?;
         let inputs = Vec::with_capacity(alloc, 2 * outside.len())?;
-        let first_reg = order.regs as usize;
-        let first_cell = first_reg + next.len();
-        let mut values = vec![in alloc; 0; first_cell]?;
-        put_constants(net, order, &mut values)?;
+        let held = first_held(alloc, net, order, &widths, next, arrays)?;
         Ok(Sim {
             net,
-            first_reg,
-            first_cell,
-            runs,
-            nexts,
+            plan,
             drivers,
-            writes,
             commits,
-            values,
-            arrays,
+            held,
             outside,
             inputs,
-            next,
             shown: false,
             waits: false,
         })
@@ -157,29 +135,25 @@ impl<'a> Sim<'a> {
         ensures { self.new ≡ run_after self.old replies }
     {
         self.waits = answer_all(&mut self.inputs, &self.outside, replies);
-        put_words(&self.inputs, 0, &mut self.values);
-        put_words(&self.next, self.first_reg, &mut self.values);
-        walk_runs(&self.runs, self.first_cell, &self.arrays, &mut self.values);
-        read_places(&self.nexts, &self.values, &mut self.next);
-        write_words(&self.writes, &self.values, &mut self.arrays);
-        step_all(&mut self.outside, replies, &self.drivers, &self.values);
+        self.held.step(&self.plan, &self.inputs);
+        step_all(&mut self.outside, replies, &self.drivers, &self.held);
         self.shown = true;
     }
 
     /// The value of an output in the last cycle, 0 before the first one; outputs are counted from 0 in their order.
-    pub fn port(&self, i: usize) -> u64
+    pub fn port(&self, i: usize) -> Word
         requires { i < length (outputs_of (circuit_of self.now.netlist)) }
         ensures { result ≡ slice_index self.now.last.ports i }
     {
         if self.shown {
-            read_place(&self.drivers, i, &self.values)
+            self.held.value(self.drivers[i])
         } else {
             0
         }
     }
 
     /// The value of an output in the last cycle, 0 where there is none.
-    fn port_at(&self, place: Option<usize>) -> u64
+    fn port_at(&self, place: Option<usize>) -> Word
         ensures { result ≡ value_at self.now.last.ports place }
     {
         match place {
@@ -189,11 +163,12 @@ impl<'a> Sim<'a> {
     }
 
     /// What the ports at these places committed in the last cycle.
-    fn committed(&self, places: CommitPlaces) -> Option<(u64, u64)>
+    fn committed(&self, places: CommitPlaces) -> Option<(u64, Word)>
+        requires { value_at self.now.last.ports places.addr < 2 ^ 64 }
         ensures { result ≡ commit_at self.now.last.ports places }
     {
         if self.port_at(places.commit) == 1 {
-            let addr = self.port_at(places.addr);
+            let addr = self.port_at(places.addr) as u64;
             Some((addr, self.port_at(places.value)))
         } else {
             None
@@ -203,7 +178,7 @@ impl<'a> Sim<'a> {
     /// The address and the value that the m-th memory of the netlist committed in the last cycle.
     ///
     /// None where its commit port was 0 or it has none, and before the first cycle.
-    pub fn commit(&self, m: usize) -> Option<(u64, u64)>
+    pub fn commit(&self, m: usize) -> Option<(u64, Word)>
         requires { m < length self.now.netlist.mems }
         ensures { result ≡ committed_by self.now.netlist self.now.last m }
     {
@@ -213,7 +188,7 @@ impl<'a> Sim<'a> {
     /// The address and the value that it committed after that in the same cycle.
     ///
     /// None where its second commit port was 0 or it has none, and before the first cycle.
-    pub fn commit2(&self, m: usize) -> Option<(u64, u64)>
+    pub fn commit2(&self, m: usize) -> Option<(u64, Word)>
         requires { m < length self.now.netlist.mems }
         ensures { result ≡ committed2_by self.now.netlist self.now.last m }
     {
@@ -230,13 +205,4 @@ impl<'a> Sim<'a> {
     {
         self.waits
     }
-}
-
-/// Puts words into a list, from a place on.
-fn put_words(words: &[u64], at: usize, values: &mut [u64])
-    requires { at + length words.now ≤ length values.old }
-    ensures { values.new ≡ take at values.old ++ words.now ++ drop
-        (at + length words.now) values.old }
-{
-    values[at..at + words.len()].copy_from_slice(words);
 }

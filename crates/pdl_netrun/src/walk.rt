@@ -1,9 +1,9 @@
-// The walk of a cycle: runs of cells of one kind, one after another, each cell's value going to the next place.
+// The walk of a cycle over words of 64 bits: runs of cells of one kind, one after another, each cell's value going to the next place.
 
-ghost use Rattle.std.specs.Prelude.{◌≡◌, ◌+◌, ◌%◌, ◌<◌, ◌≤◌, length, map, slice_index};
+ghost use Rattle.std.specs.Prelude.{◌≡◌, ◌+◌, ◌%◌, ◌<◌, ◌≤◌, length};
 ghost use Rattle.pdl_netrun.specs.RunKinds.{kind_in};
 ghost use Rattle.pdl_netrun.specs.declared.run_kind.RunKind.TheVariants.{Taking, Testing, Counting};
-ghost use Rattle.pdl_netrun.specs.Steps.{StepsFit, AreBelow, steps_with, steps_of, after_steps, array_words};
+ghost use Rattle.pdl_netrun.specs.Steps.{StepsFit, steps_with, steps_of, after_steps, array_words};
 
 use crate::operation::{CellOperands, CellOperation};
 use crate::operations::{
@@ -31,7 +31,7 @@ fn walk_one<K: CellOperation>(
 )
     requires one { length operands.now ≡ 1 }
     requires room { first + length operands.now ≤ length values.old }
-    requires fit { StepsFit (steps_with K.kind operands.now) first values.old
+    requires fit { StepsFit 64 (steps_with K.kind operands.now) first values.old
         (array_words arrays.now) }
     ensures { values.new ≡ after_steps (steps_with K.kind operands.now) first values.old
         (array_words arrays.now) }
@@ -49,7 +49,7 @@ fn walk_two<K: CellOperation>(
 )
     requires two { length operands.now ≡ 2 }
     requires room { first + length operands.now ≤ length values.old }
-    requires fit { StepsFit (steps_with K.kind operands.now) first values.old
+    requires fit { StepsFit 64 (steps_with K.kind operands.now) first values.old
         (array_words arrays.now) }
     ensures { values.new ≡ after_steps (steps_with K.kind operands.now) first values.old
         (array_words arrays.now) }
@@ -68,7 +68,7 @@ fn walk_four<K: CellOperation>(
 )
     requires four { length operands.now ≡ 4 }
     requires room { first + length operands.now ≤ length values.old }
-    requires fit { StepsFit (steps_with K.kind operands.now) first values.old
+    requires fit { StepsFit 64 (steps_with K.kind operands.now) first values.old
         (array_words arrays.now) }
     ensures { values.new ≡ after_steps (steps_with K.kind operands.now) first values.old
         (array_words arrays.now) }
@@ -87,7 +87,7 @@ fn walk_eight<K: CellOperation>(
 )
     requires eight { length operands.now ≡ 8 }
     requires room { first + length operands.now ≤ length values.old }
-    requires fit { StepsFit (steps_with K.kind operands.now) first values.old
+    requires fit { StepsFit 64 (steps_with K.kind operands.now) first values.old
         (array_words arrays.now) }
     ensures { values.new ≡ after_steps (steps_with K.kind operands.now) first values.old
         (array_words arrays.now) }
@@ -106,7 +106,7 @@ fn walk_eights<K: CellOperation>(
 )
     requires eights { length operands.now % 8 ≡ 0 }
     requires room { first + length operands.now ≤ length values.old }
-    requires fit { StepsFit (steps_with K.kind operands.now) first values.old
+    requires fit { StepsFit 64 (steps_with K.kind operands.now) first values.old
         (array_words arrays.now) }
     ensures { values.new ≡ after_steps (steps_with K.kind operands.now) first values.old
         (array_words arrays.now) }
@@ -126,7 +126,7 @@ fn walk_last<K: CellOperation>(
 )
     requires few { length operands.now < 2 }
     requires room { first + length operands.now ≤ length values.old }
-    requires fit { StepsFit (steps_with K.kind operands.now) first values.old
+    requires fit { StepsFit 64 (steps_with K.kind operands.now) first values.old
         (array_words arrays.now) }
     ensures { values.new ≡ after_steps (steps_with K.kind operands.now) first values.old
         (array_words arrays.now) }
@@ -146,7 +146,7 @@ fn walk_few<K: CellOperation>(
 )
     requires few { length operands.now < 4 }
     requires room { first + length operands.now ≤ length values.old }
-    requires fit { StepsFit (steps_with K.kind operands.now) first values.old
+    requires fit { StepsFit 64 (steps_with K.kind operands.now) first values.old
         (array_words arrays.now) }
     ensures { values.new ≡ after_steps (steps_with K.kind operands.now) first values.old
         (array_words arrays.now) }
@@ -169,7 +169,7 @@ fn walk_rest<K: CellOperation>(
 )
     requires few { length operands.now < 8 }
     requires room { first + length operands.now ≤ length values.old }
-    requires fit { StepsFit (steps_with K.kind operands.now) first values.old
+    requires fit { StepsFit 64 (steps_with K.kind operands.now) first values.old
         (array_words arrays.now) }
     ensures { values.new ≡ after_steps (steps_with K.kind operands.now) first values.old
         (array_words arrays.now) }
@@ -193,7 +193,7 @@ fn walk<K: CellOperation>(
     values: &mut [u64],
 )
     requires room { first + length operands.now ≤ length values.old }
-    requires fit { StepsFit (steps_with K.kind operands.now) first values.old
+    requires fit { StepsFit 64 (steps_with K.kind operands.now) first values.old
         (array_words arrays.now) }
     ensures { values.new ≡ after_steps (steps_with K.kind operands.now) first values.old
         (array_words arrays.now) }
@@ -213,7 +213,7 @@ fn walk_taking(
     values: &mut [u64],
 )
     requires room { first + length operands.now ≤ length values.old }
-    requires fit { StepsFit (steps_with (kind_in (Taking kind)) operands.now) first values.old
+    requires fit { StepsFit 64 (steps_with (kind_in (Taking kind)) operands.now) first values.old
         (array_words arrays.now) }
     ensures { values.new ≡ after_steps (steps_with (kind_in (Taking kind)) operands.now) first
         values.old (array_words arrays.now) }
@@ -241,7 +241,7 @@ fn walk_testing(
     values: &mut [u64],
 )
     requires room { first + length operands.now ≤ length values.old }
-    requires fit { StepsFit (steps_with (kind_in (Testing kind)) operands.now) first values.old
+    requires fit { StepsFit 64 (steps_with (kind_in (Testing kind)) operands.now) first values.old
         (array_words arrays.now) }
     ensures { values.new ≡ after_steps (steps_with (kind_in (Testing kind)) operands.now) first
         values.old (array_words arrays.now) }
@@ -269,7 +269,7 @@ fn walk_counting(
     values: &mut [u64],
 )
     requires room { first + length operands.now ≤ length values.old }
-    requires fit { StepsFit (steps_with (kind_in (Counting kind)) operands.now) first values.old
+    requires fit { StepsFit 64 (steps_with (kind_in (Counting kind)) operands.now) first values.old
         (array_words arrays.now) }
     ensures { values.new ≡ after_steps (steps_with (kind_in (Counting kind)) operands.now) first
         values.old (array_words arrays.now) }
@@ -291,7 +291,7 @@ fn walk_counting(
 /// Gives the cells of a run their values.
 fn walk_run(run: &CellRun, first: usize, arrays: &[Vec<u64>], values: &mut [u64])
     requires room { first + length run.now.operands.items ≤ length values.old }
-    requires fit { StepsFit (steps_with (kind_in run.now.kind) run.now.operands.items) first
+    requires fit { StepsFit 64 (steps_with (kind_in run.now.kind) run.now.operands.items) first
         values.old (array_words arrays.now) }
     ensures { values.new ≡ after_steps (steps_with (kind_in run.now.kind) run.now.operands.items)
         first values.old (array_words arrays.now) }
@@ -308,7 +308,7 @@ fn walk_run(run: &CellRun, first: usize, arrays: &[Vec<u64>], values: &mut [u64]
 #[tactic(auto, using(crate::proofs::Steps::runs))]
 pub fn walk_runs(runs: &[CellRun], first: usize, arrays: &[Vec<u64>], values: &mut [u64])
     requires room { first + length (steps_of runs.now) ≤ length values.old }
-    requires fit { StepsFit (steps_of runs.now) first values.old (array_words arrays.now) }
+    requires fit { StepsFit 64 (steps_of runs.now) first values.old (array_words arrays.now) }
     ensures { values.new ≡ after_steps (steps_of runs.now) first values.old
         (array_words arrays.now) }
 {
@@ -316,26 +316,5 @@ pub fn walk_runs(runs: &[CellRun], first: usize, arrays: &[Vec<u64>], values: &m
     for run in runs {
         walk_run(run, at, arrays, values);
         at += run.operands.as_slice().len();
-    }
-}
-
-/// The value at one of these places.
-pub fn read_place(places: &[u32], k: usize, values: &[u64]) -> u64
-    requires there { AreBelow (length values.now) places.now }
-    requires within { k < length places.now }
-    ensures { result ≡ slice_index values.now (slice_index places.now k) }
-{
-    values[places[k] as usize]
-}
-
-/// The values at these places.
-#[tactic(auto, using(crate::proofs::Steps::reads))]
-pub fn read_places(places: &[u32], values: &[u64], out: &mut [u64])
-    requires there { AreBelow (length values.now) places.now }
-    requires room { length out.old ≡ length places.now }
-    ensures { out.new ≡ map (slice_index values.now) places.now }
-{
-    for k in 0..out.len() {
-        out[k] = values[places[k] as usize];
     }
 }

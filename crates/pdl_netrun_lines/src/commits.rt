@@ -5,12 +5,14 @@ ghost use Rattle.pdl_semantics.specs.Lines.{mem_lines, cycle_lines};
 ghost use Rattle.pdl_law_parts.specs.Runs.{column_of, puts_of, cycle_of, commit_mems};
 ghost use Rattle.pdl_netrun_lines.specs.Printed.{AreOrdered};
 ghost use Rattle.pdl_trace.specs.Passed.{Passes};
+ghost use Rattle.pdl_word.specs.Words.{widest};
 
 use pdl_kit::sink::{Sink, WriteFailed};
 use pdl_kit::{MemInfo, Name, NoMemory};
 use pdl_net::{Dir, Netlist};
 use pdl_netrun::Sim;
 use pdl_trace::{LineOut, commit_line};
+use pdl_word::Word;
 use std::alloc::Global;
 
 // Whether a port of this name is the one by which a memory of that name commits.
@@ -53,10 +55,10 @@ fn push_commit<S: Sink>(
     sink: &mut S,
     cycle: u32,
     mem: &MemInfo,
-    commit: Option<(u64, u64)>,
+    commit: Option<(u64, Word)>,
 ) -> Result<(), WriteFailed>
     requires name { length mem.now.name ≤ 32 }
-    requires width { mem.now.width ≤ 64 }
+    requires width { mem.now.width ≤ widest }
     ensures bytes { Passes (S.written sink.old) (S.written sink.new) result
         (out.old ++ mem_lines cycle (column_of mem.now) (puts_of commit)) out.new }
     ensures cause { HasCause (S.faults sink.old) (S.faults sink.new) result }
@@ -76,11 +78,11 @@ fn push_memory<S: Sink>(
     sink: &mut S,
     cycle: u32,
     mem: &MemInfo,
-    first: Option<(u64, u64)>,
-    second: Option<(u64, u64)>,
+    first: Option<(u64, Word)>,
+    second: Option<(u64, Word)>,
 ) -> Result<(), WriteFailed>
     requires name { length mem.now.name ≤ 32 }
-    requires width { mem.now.width ≤ 64 }
+    requires width { mem.now.width ≤ widest }
     ensures bytes { Passes (S.written sink.old) (S.written sink.new) result
         (out.old ++ mem_lines cycle (column_of mem.now) (puts_of first ++ puts_of second))
         out.new }
@@ -102,7 +104,7 @@ pub fn push_commits<S: Sink>(
     requires mems { mems.now ≡ sim.now.netlist.mems }
     requires order { AreOrdered sim.now.netlist order.now }
     requires names { All (λ m. length m.name ≤ 32) mems.now }
-    requires widths { All (λ m. m.width ≤ 64) mems.now }
+    requires widths { All (λ m. m.width ≤ widest) mems.now }
     ensures bytes { Passes (S.written sink.old) (S.written sink.new) result
         (out.old ++ cycle_lines cycle (map column_of (commit_mems sim.now.netlist))
         (cycle_of sim.now.netlist sim.now.last).puts) out.new }

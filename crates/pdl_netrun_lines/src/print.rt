@@ -12,6 +12,7 @@ ghost use Rattle.pdl_netrun.specs.Sim.{run_after};
 ghost use Rattle.pdl_netrun_lines.specs.Tally.{tallied_of, counts_of};
 ghost use Rattle.pdl_kit.specs.Counts.{HasCause};
 ghost use Rattle.pdl_trace.specs.Passed.{Passes, Streams};
+ghost use Rattle.pdl_word.specs.Words.{widest};
 
 use crate::commits::{commit_order, push_commits};
 use pdl_image::{Delays, Image};
@@ -87,7 +88,7 @@ fn run_cycles<S: Sink>(
     requires mems { probes.now.mems.now ≡ sim.old.netlist.mems }
     requires order { AreOrdered sim.old.netlist probes.now.order.now }
     requires names { All (λ m. length m.name ≤ 32) probes.now.mems.now }
-    requires widths { All (λ m. m.width ≤ 64) probes.now.mems.now }
+    requires widths { All (λ m. m.width ≤ widest) probes.now.mems.now }
     requires outputs { probes.now.outputs ≡ output_count sim.old.netlist }
     requires two { 2 ≤ probes.now.outputs }
     requires few { schedule.now.cycles ≤ 1000000 }
@@ -123,7 +124,7 @@ fn push_run<S: Sink>(
     requires mems { probes.now.mems.now ≡ sim.old.netlist.mems }
     requires order { AreOrdered sim.old.netlist probes.now.order.now }
     requires names { All (λ m. length m.name ≤ 32) probes.now.mems.now }
-    requires widths { All (λ m. m.width ≤ 64) probes.now.mems.now }
+    requires widths { All (λ m. m.width ≤ widest) probes.now.mems.now }
     requires outputs { probes.now.outputs ≡ output_count sim.old.netlist }
     requires two { 2 ≤ probes.now.outputs }
     requires few { schedule.now.cycles ≤ 1000000 }
@@ -147,7 +148,7 @@ fn print_run<S: Sink>(
     requires mems { probes.now.mems.now ≡ sim.old.netlist.mems }
     requires order { AreOrdered sim.old.netlist probes.now.order.now }
     requires names { All (λ m. length m.name ≤ 32) probes.now.mems.now }
-    requires widths { All (λ m. m.width ≤ 64) probes.now.mems.now }
+    requires widths { All (λ m. m.width ≤ widest) probes.now.mems.now }
     requires outputs { probes.now.outputs ≡ output_count sim.old.netlist }
     requires two { 2 ≤ probes.now.outputs }
     requires few { schedule.now.cycles ≤ 1000000 }
@@ -211,7 +212,7 @@ pub fn run<S: Sink>(
     requires well { IsWellFormed net.now }
     requires image { IsImage net.now.mems image.now }
     requires names { All (λ m. length m.name ≤ 32) net.now.mems }
-    requires widths { All (λ m. m.width ≤ 64) net.now.mems }
+    requires widths { All (λ m. m.width ≤ widest) net.now.mems }
     requires two { 2 ≤ output_count net.now }
     requires few { schedule.now.cycles ≤ 1000000 }
     ensures text { Streams (S.written sink.old) (S.written sink.new)

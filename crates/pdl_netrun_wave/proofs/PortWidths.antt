@@ -23,6 +23,7 @@ use Rattle.pdl_wave.specs.declared.port.WavePort.{WavePort}
 use Rattle.pdl_wave.specs.Dump.{IsRow}
 use Rattle.pdl_netrun_wave.specs.Dumped.{wave_with, wave_port, wave_ports}
 use Rattle.pdl_netrun_wave.specs.Cycles.{AreDumpable, IsFit}
+use Rattle.pdl_word.specs.Words.{widest}
 
 -- ---- in one cycle
 
@@ -85,19 +86,19 @@ fit_start n image w i =
 
 widths_by : (c : Circuit) (ps : List Port)
     → ((i : ℕ) (p : Port) → slice_get ps i ≡ Some p → IsWellPort c p)
-    → All (λ (p : WavePort). (1 ≤ p.width) × (p.width ≤ 64)) (filter_map wave_port ps)
-widths_by c [] h = All-nil (λ (p : WavePort). (1 ≤ p.width) × (p.width ≤ 64))
+    → All (λ (p : WavePort). (1 ≤ p.width) × (p.width ≤ widest)) (filter_map wave_port ps)
+widths_by c [] h = All-nil (λ (p : WavePort). (1 ≤ p.width) × (p.width ≤ widest))
 widths_by c (p ∷ ps) h = one p.dir p.width (h 0 p refl).low (h 0 p refl).high (widths_by c ps (λ i q e. h (suc i) q e))
   where
-    one : (d : Dir) (w : ℕ) → 1 ≤ w → w ≤ 64
-        → All (λ (q : WavePort). (1 ≤ q.width) × (q.width ≤ 64)) (filter_map wave_port ps)
-        → All (λ (q : WavePort). (1 ≤ q.width) × (q.width ≤ 64)) (cons_option (wave_with d p.name w) (filter_map wave_port ps))
+    one : (d : Dir) (w : ℕ) → 1 ≤ w → w ≤ widest
+        → All (λ (q : WavePort). (1 ≤ q.width) × (q.width ≤ widest)) (filter_map wave_port ps)
+        → All (λ (q : WavePort). (1 ≤ q.width) × (q.width ≤ widest)) (cons_option (wave_with d p.name w) (filter_map wave_port ps))
     one In w low high rest = rest
     one (Out x) w low high rest =
-        All-cons (λ (q : WavePort). (1 ≤ q.width) × (q.width ≤ 64)) (record { name = p.name; width = w }) (filter_map wave_port ps) (low, high) rest
+        All-cons (λ (q : WavePort). (1 ≤ q.width) × (q.width ≤ widest)) (record { name = p.name; width = w }) (filter_map wave_port ps) (low, high) rest
 
--- the ports of a netlist have 1 to 64 bits
-pub port_widths : (n : Netlist) → IsWell (circuit_of n) → All (λ (p : WavePort). (1 ≤ p.width) × (p.width ≤ 64)) (wave_ports n)
+-- the ports of a netlist have 1 to widest bits
+pub port_widths : (n : Netlist) → IsWell (circuit_of n) → All (λ (p : WavePort). (1 ≤ p.width) × (p.width ≤ widest)) (wave_ports n)
 port_widths n w = widths_by (circuit_of n) n.ports w.ports
 
 -- as many as outputs

@@ -12,6 +12,7 @@ use pdl_kit::sink::{Sink, WriteFailed};
 use pdl_netrun::Sim;
 use pdl_trace::LineOut;
 use pdl_wave::{WavePort, change_line, time_line};
+use pdl_word::Word;
 
 // Passes on the line of the i-th port's value, if it changed.
 fn push_port<S: Sink>(
@@ -19,7 +20,7 @@ fn push_port<S: Sink>(
     sink: &mut S,
     ports: &[WavePort],
     i: usize,
-    value: u64,
+    value: Word,
     changed: bool,
 ) -> Result<(), WriteFailed>
     requires dumpable { AreDumpable ports.now }
@@ -32,12 +33,12 @@ fn push_port<S: Sink>(
     if !changed {
         return Ok(());
     }
-    let line = change_line(u128::from(value), ports[i].width, i);
+    let line = change_line(value, ports[i].width, i);
     out.push(sink, line.as_bytes())
 }
 
 // Whether a port has another value than before; before the first cycle it has none.
-fn has_changed(first: bool, before: u64, value: u64) -> bool
+fn has_changed(first: bool, before: Word, value: Word) -> bool
     ensures { result ≡ (first || not (before == value)) }
 {
     first || before != value
@@ -49,7 +50,7 @@ fn push_ports<S: Sink>(
     sink: &mut S,
     ports: &[WavePort],
     first: bool,
-    before: &mut [u64],
+    before: &mut [Word],
     sim: &Sim,
 ) -> Result<(), WriteFailed>
     requires dumpable { AreDumpable ports.now }
@@ -77,7 +78,7 @@ fn push_ports<S: Sink>(
 }
 
 // Whether no port has another value in the last cycle than before.
-fn is_quiet(before: &[u64], sim: &Sim) -> bool
+fn is_quiet(before: &[Word], sim: &Sim) -> bool
     requires count { length before.now ≡ length (outputs_of (circuit_of sim.now.netlist)) }
     requires ports { length sim.now.last.ports ≡ length before.now }
     ensures { result ≡ is_none (changes 0 before.now sim.now.last.ports) }
@@ -91,7 +92,7 @@ fn is_quiet(before: &[u64], sim: &Sim) -> bool
 }
 
 // Whether nothing is dumped of the last cycle: it isn't the first, and no port has another value than before.
-fn is_silent(first: bool, before: &[u64], sim: &Sim) -> bool
+fn is_silent(first: bool, before: &[Word], sim: &Sim) -> bool
     requires count { length before.now ≡ length (outputs_of (circuit_of sim.now.netlist)) }
     requires ports { length sim.now.last.ports ≡ length before.now }
     ensures { result ≡ (not first && is_none (changes 0 before.now sim.now.last.ports)) }
@@ -105,7 +106,7 @@ pub fn push_cycle<S: Sink>(
     sink: &mut S,
     ports: &[WavePort],
     cycle: u32,
-    before: &mut [u64],
+    before: &mut [Word],
     sim: &Sim,
 ) -> Result<(), WriteFailed>
     requires dumpable { AreDumpable ports.now }

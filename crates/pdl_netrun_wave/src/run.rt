@@ -20,6 +20,7 @@ use pdl_netrun::Sim;
 use pdl_netrun_lines::Schedule;
 use pdl_trace::{LineOut, TextError};
 use pdl_wave::{WavePort, header_line, time_line};
+use pdl_word::Word;
 use std::alloc::Global;
 
 // What the header of a dump says: the name of the netlist, and its output ports.
@@ -54,7 +55,7 @@ fn push_cycles<S: Sink>(
     out: &mut LineOut,
     sink: &mut S,
     ports: &[WavePort],
-    before: &mut [u64],
+    before: &mut [Word],
     sim: &mut Sim,
     schedule: &Schedule<'_>,
 ) -> Result<(), WriteFailed>
@@ -79,7 +80,7 @@ fn push_dump<S: Sink>(
     out: &mut LineOut,
     sink: &mut S,
     heading: &Heading<'_>,
-    before: &mut [u64],
+    before: &mut [Word],
     sim: &mut Sim,
     schedule: &Schedule<'_>,
 ) -> Result<(), WriteFailed>
@@ -104,7 +105,7 @@ fn push_dump<S: Sink>(
 fn print_dump<S: Sink>(
     sink: &mut S,
     heading: &Heading<'_>,
-    before: &mut [u64],
+    before: &mut [Word],
     sim: &mut Sim,
     schedule: &Schedule<'_>,
 ) -> Result<(), TextError>

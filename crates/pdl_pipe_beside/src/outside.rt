@@ -14,6 +14,7 @@ ghost use Rattle.pdl_word.specs.Each.{Each};
 ghost use Rattle.pdl_pipe_beside.specs.Ports.{ReadsLeadOn};
 ghost use Rattle.pdl_pipe_beside.specs.Ends.{AreEnds};
 ghost use Rattle.pdl_pipe_beside.specs.Requests.{address_or as or_signal, address_from, IsAddressNet, IsRequest, HasRequest, AreRequests};
+ghost use Rattle.pdl_word.specs.Words.{widest};
 
 use crate::asks::{ask_at, asks_memory};
 use crate::ends::{BesideRound, end_at};
@@ -39,7 +40,7 @@ fn address_bits(mem: &FlatMem) -> u8
     requires { IsTypedMem (mem_view mem.now) }
     ensures power { 2 ^ result ≡ mem.now.depth }
     ensures low { 1 ≤ result }
-    ensures high { result ≤ 64 }
+    ensures high { result ≤ widest }
 {
     mem.depth.ilog2() as u8
 }
@@ -80,7 +81,7 @@ fn asked_address(
 ) -> Result<Net, NoMemory>
     requires bits { AreBits b.old bits }
     requires low { 1 ≤ width }
-    requires high { width ≤ 64 }
+    requires high { width ≤ widest }
     requires asks { Each (IsAddressNet b.old m width) asks.now }
     requires moves { HasWidth b.old moves 1 }
     ensures means { IfOk result (λ y.
@@ -108,7 +109,7 @@ fn stage_request(
 ) -> Result<RequestNets, NoMemory>
     requires bits { AreBits b.old bits }
     requires low { 1 ≤ width }
-    requires high { width ≤ 64 }
+    requires high { width ≤ widest }
     requires asks { Each (IsAddressNet b.old m width) asks.now }
     requires moves { HasWidth b.old moves 1 }
     ensures enable { IfOk result (λ x. Means b.new x.enable (memory_asked m (signal b.old moves)

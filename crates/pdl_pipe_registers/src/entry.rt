@@ -15,6 +15,7 @@ ghost use Rattle.pdl_pipe_registers.specs.declared.nets.Item.TheVariants.{Var};
 ghost use Rattle.pdl_pipe_registers.specs.Items.{IsZero, item_width, is_answered as gets_item};
 ghost use Rattle.pdl_pipe_registers.specs.Stages.{end_of, begun_parts, IsFrame, IsBegun, AreOwn};
 ghost use Rattle.pdl_pipe_registers.specs.Begun.{earlier_views, earlier_count, IsShared, IsEarlier, IsItem, IsSettledAfter, IsLonger, MayAdd, MayBegin, AreBegun, AreAnswered, IsFresh};
+ghost use Rattle.pdl_word.specs.Words.{widest};
 
 use crate::guess::begin_guess;
 use crate::marks::begin_marks;
@@ -29,6 +30,7 @@ use pdl_pipe_answers::{gets_answer, with_answers};
 use pdl_pipe_exprs::Bits;
 use pdl_pipe_exprs::exprs::variable;
 use pdl_pipe_walk::{MarkNet, WalkNets};
+use pdl_word::Word;
 use std::alloc::Global;
 
 // Whether a thread may get an item in a stage by an answer.
@@ -57,7 +59,7 @@ pub(crate) fn begin_item(
     requires after { 0 < earlier_count earlier.now }
     requires item { IsItem (form pipe.now) item }
     requires low { 1 ≤ width }
-    requires high { width ≤ 64 }
+    requires high { width ≤ widest }
     requires wide { width ≡ item_width (form pipe.now) (signals_in b.old shared.now.next) item }
     requires last { end_of regs.old ≡ length b.old.regs }
     ensures may { IfOk result (λ net.
@@ -76,7 +78,7 @@ pub(crate) fn begin_item(
 }
 
 // The first thread's argument for a parameter.
-fn start_of(pipe: &FlatPipe, x: usize) -> u64
+fn start_of(pipe: &FlatPipe, x: usize) -> Word
     requires { x < length (form pipe.now).pipe.start }
     ensures { result ≡ slice_index (form pipe.now).pipe.start x }
 {
@@ -255,7 +257,7 @@ pub fn begin(
     ensures extends { Extends b.old b.new }
 {
     let stage = earlier.stages.len();
-    let mut regs = StageRegs::new(alloc, b, u64::from(stage == 0))?;
+    let mut regs = StageRegs::new(alloc, b, Word::from(stage == 0))?;
     let vars = begin_vars(alloc, b, pipe, shared, earlier, &mut regs)?;
     let marks = begin_marks(alloc, b, pipe, shared, earlier, &mut regs)?;
     let tickets = begin_tickets(alloc, b, pipe, shared, stage, &mut regs)?;

@@ -9,6 +9,7 @@ ghost use Rattle.pdl_pipe_exprs.specs.Nets.{signals_in};
 ghost use Rattle.pdl_pipe_registers.specs.Items.{IsConstant, ended_item};
 ghost use Rattle.pdl_pipe_registers.specs.Stages.{end_of, view_in, IsRegister};
 ghost use Rattle.pdl_pipe_registers.specs.Begun.{earlier_views, with_item, IsShared, IsEnded, IsEarlier, IsItem, IsCommonNet};
+ghost use Rattle.pdl_word.specs.Words.{widest};
 
 use crate::nets::{Earlier, Item, Shared, StageNets, StageRegs};
 use pdl_build::Builder;
@@ -17,11 +18,12 @@ use pdl_kit::{NoMemory, Seq};
 use pdl_net::Net;
 use pdl_pipe_exprs::are_same;
 use pdl_pipe_exprs::exprs::variable;
+use pdl_word::Word;
 use std::alloc::Global;
 
 impl StageRegs {
     /// The register that tells whether a stage holds a thread, with this value at reset.
-    pub fn new(alloc: Global, b: &mut Builder, reset: u64) -> Result<StageRegs, NoMemory>
+    pub fn new(alloc: Global, b: &mut Builder, reset: Word) -> Result<StageRegs, NoMemory>
         requires { reset < 2 }
         ensures place { IfOk result (λ r. r.valid ≡ length b.old.regs) }
         ensures none { IfOk result (λ r. r.items ≡ []) }
@@ -42,10 +44,10 @@ impl StageRegs {
         b: &mut Builder,
         item: Item,
         width: u8,
-        reset: u64,
+        reset: Word,
     ) -> Result<Net, NoMemory>
         requires low { 1 ≤ width }
-        requires high { width ≤ 64 }
+        requires high { width ≤ widest }
         requires fits { reset < 2 ^ width }
         requires last { end_of self.old ≡ length b.old.regs }
         ensures net { IfOk result (λ x. x ≡ RegNet (end_of self.old)) }

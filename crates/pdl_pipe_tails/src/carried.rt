@@ -10,6 +10,7 @@ ghost use Rattle.pdl_pipe_nexts.specs.Lines.{line_pipe, IsLineIn};
 ghost use Rattle.pdl_pipe_tails.specs.Reserved.{AreAfterAll};
 ghost use Rattle.pdl_pipe_tails.specs.Carried.{brought_tail, carries_tail as has_tail, tail_in, AreComing, HaveTails, IsCarried};
 ghost use Rattle.pdl_pipe_tails.specs.Tails.{AreStageTails, IsTail};
+ghost use Rattle.pdl_word.specs.Words.{widest};
 
 use pdl_build::Builder;
 use pdl_form::FlatPipe;
@@ -73,7 +74,7 @@ fn carried(
     width: u8,
 ) -> Result<Net, NoMemory>
     requires low { 1 ≤ width }
-    requires high { width ≤ 64 }
+    requires high { width ≤ widest }
     requires arrivals { AreComing b.old (length before.now) arrivals.now }
     requires before { HaveTails b.old mem width before.now }
     ensures wide { IfOk result (λ x. HasWidth b.new x width) }

@@ -15,6 +15,7 @@ use pdl_kit::NoMemory;
 use pdl_lock_ring::step::Oldest;
 use pdl_lockapi::LockPorts;
 use pdl_net::{BinOp, Net};
+use pdl_word::Word;
 
 /// The place of an address's word after the first release.
 #[tactic(auto, using(pdl_lock_ring::proofs::Ends::release_is, crate::proofs::MadeRegisters::map_kept))]
@@ -34,7 +35,7 @@ fn emit_first_word(
     ensures extends { Extends b.old b.new }
 {
     let word = Net::Reg(l.map + a);
-    let number = b.constant(l.slots.bits, a as u64)?;
+    let number = b.constant(l.slots.bits, a as Word)?;
     let same = b.bin(BinOp::Eq, o.first.addr, number)?;
     let here = b.mux(same, o.first.content, word)?;
     b.mux(p.release, here, word)
@@ -53,7 +54,7 @@ fn emit_word(b: &mut Builder, l: Layout, p: &LockPorts, o: Oldest, a: usize) -> 
     ensures extends { ExtendsBut (own_reg (map_at l a)) b.old b.new }
 {
     let first = emit_first_word(b, l, p, o, a)?;
-    let number = b.constant(l.slots.bits, a as u64)?;
+    let number = b.constant(l.slots.bits, a as Word)?;
     let same = b.bin(BinOp::Eq, o.second.addr, number)?;
     let here = b.mux(same, o.second.content, first)?;
     let next = b.mux(p.release2, here, first)?;

@@ -19,6 +19,7 @@ use pdl_lock_ring::step::{Oldest, emit_next_head};
 use pdl_lock_ring::taken::emit_gate;
 use pdl_lockapi::LockPorts;
 use pdl_net::{BinOp, Net};
+use pdl_word::Word;
 
 /// The slots that a cycle releases, a number that no slot has where there is none, and the places that their releases set free.
 #[derive(Clone, Copy)]
@@ -78,7 +79,7 @@ fn emit_place(b: &mut Builder, l: Layout, p: &LockPorts, f: Freed, k: usize) -> 
         ≡ next_place l (step_signals b.old p.now) k) }
     ensures extends { ExtendsBut (own_reg (value_at l.slots k)) b.old b.new }
 {
-    let number = b.constant(l.slots.ticket, k as u64)?;
+    let number = b.constant(l.slots.ticket, k as Word)?;
     let first = b.bin(BinOp::Eq, f.slot, number)?;
     let second = b.bin(BinOp::Eq, f.slot2, number)?;
     let place = b.mux(

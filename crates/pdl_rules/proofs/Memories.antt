@@ -13,6 +13,7 @@ use Rattle.pdl_rules.proofs.EachPlace.{Each}
 use Rattle.pdl_rules.proofs.SingleWrites.{any_front, any_last}
 use Rattle.pdl_rules.proofs.KnownVariables.{takes_name}
 use Rattle.pdl_rules.specs.Names.{breaks_n2}
+use Rattle.pdl_semantics.specs.Words.{widest}
 
 -- DEPTHS
 
@@ -50,25 +51,25 @@ pub record Keeps (p : Pipe) (before : List Place) (x : Place) : Type 0 where
 abbrev pub has_depth : Mem → Bool
 has_depth m = is_depth m.depth.value
 
--- a memory that keeps Z7 has a width from 1 to 64 and an allowed depth
+-- a memory that keeps Z7 has a width from 1 to widest and an allowed depth
 pub shape : (m : Mem) → breaks_z7 (Memory m) ≡ false → (is_width m.width.value ≡ true) × (has_depth m ≡ true)
 shape m e = and_parts (is_width m.width.value) (has_depth m) (not-false _ (or_parts _ (is_some_and (is_wrong_lock m) m.lock) e).0)
 
 sized_one : (m : Mem) → breaks_z7 (Memory m) ≡ false → IsSized m
 sized_one m e =
     let both = shape m e in
-    let width = and_parts (nat_le 1 m.width.value) (nat_le m.width.value 64) both.0 in
+    let width = and_parts (nat_le 1 m.width.value) (nat_le m.width.value widest) both.0 in
     let few = bits_few m.depth.value both.1 in
     record {
       low = leb-true 1 _ width.0;
-      high = leb-true _ 64 width.1;
+      high = leb-true _ widest width.1;
       bits = address_bits m.depth.value;
       some = few.0;
       few = few.1;
       power = sym (bits_reach m.depth.value both.1);
     }
 
--- memories that keep Z7 and N2 have words of 1 to 64 bits, and a power of two of them, from 2 to 65,536
+-- memories that keep Z7 and N2 have words of 1 to widest bits, and a power of two of them, from 2 to 65,536
 pub sized : (p : Pipe) (ms : List Mem) (before : List Place) → Each (Keeps p) before (map Memory ms) → AreSized ms
 sized p [] before each = tt
 sized p (m ∷ ms) before each = (sized_one m each.0.z7, sized p ms (before ++ Memory m ∷ []) each.1)

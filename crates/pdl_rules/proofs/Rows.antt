@@ -46,7 +46,7 @@ seventeen_memories : of_pipe (whole (param "n" 4 ∷ []) (replicate 16 (comb 2 "
     ≡ at_line Z4 9
 seventeen_memories = refl
 
-wide_parameter : of_pipe (whole (param "n" 65 ∷ []) [] (next ∷ []) (literal 4 0 ∷ [])) ≡ at_line Z7 1
+wide_parameter : of_pipe (whole (param "n" 129 ∷ []) [] (next ∷ []) (literal 4 0 ∷ [])) ≡ at_line Z7 1
 wide_parameter = refl
 
 no_power_of_two : of_pipe (whole (param "n" 4 ∷ []) (comb 2 "m" 8 4 None ∷ comb 5 "t" 8 6 None ∷ []) (next ∷ []) (literal 4 0 ∷ []))
@@ -56,7 +56,7 @@ no_power_of_two = refl
 no_size : of_pipe (whole (param "n" 4 ∷ []) (comb 2 "m" 8 4 (queue 3) ∷ []) (next ∷ []) (literal 4 0 ∷ [])) ≡ at_line Z7 2
 no_size = refl
 
-wide_literal : of_pipe (pipe (address ∷ bind "v" (constant 65 0) ∷ next ∷ [])) ≡ at_line Z7 4
+wide_literal : of_pipe (pipe (address ∷ bind "v" (constant 129 0) ∷ next ∷ [])) ≡ at_line Z7 4
 wide_literal = refl
 
 -- a limit is broken by the first place over it, and by no other
@@ -121,10 +121,10 @@ slice_the_wrong_way = refl
 extended_to_less : of_pipe (pipe (bind "b" (ZeroExtend (variable "n") (number 3)) ∷ next ∷ [])) ≡ at_line W2 3
 extended_to_less = refl
 
-extended_too_far : of_pipe (pipe (bind "b" (SignExtend (variable "n") (number 65)) ∷ next ∷ [])) ≡ at_line W2 3
+extended_too_far : of_pipe (pipe (bind "b" (SignExtend (variable "n") (number 129)) ∷ next ∷ [])) ≡ at_line W2 3
 extended_too_far = refl
 
-too_many_together : of_pipe (pipe (bind "b" (ZeroExtend (variable "n") (number 64)) ∷ bind "c" (Cat (variable "b") (variable "n")) ∷ next ∷ []))
+too_many_together : of_pipe (pipe (bind "b" (ZeroExtend (variable "n") (number 126)) ∷ bind "c" (Cat (variable "b") (variable "n")) ∷ next ∷ []))
     ≡ at_line W2 4
 too_many_together = refl
 
@@ -343,6 +343,6 @@ wrong_slice_has_a_bit : of_pipe (pipe (bind "b" (plus (slice "n" 1 2) (constant 
 wrong_slice_has_a_bit = refl
 
 wide_cat_has_a_bit :
-    of_pipe (pipe (bind "b" (ZeroExtend (variable "n") (number 64)) ∷ bind "c" (plus (Cat (variable "b") (variable "n")) (constant 1 1)) ∷ next ∷ []))
+    of_pipe (pipe (bind "b" (ZeroExtend (variable "n") (number 126)) ∷ bind "c" (plus (Cat (variable "b") (variable "n")) (constant 1 1)) ∷ next ∷ []))
     ≡ at_line W2 4
 wide_cat_has_a_bit = refl

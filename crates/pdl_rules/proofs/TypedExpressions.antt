@@ -5,12 +5,13 @@ use Rattle.std.specs.Cmp.Lexicographic.{pointwise}
 use Rattle.std.proofs.lemmas.Bool.{false≢true, true≢false, and_parts, or_parts, eqb-true, not-false}
 use Rattle.std.specs.List.{list_any}
 use Rattle.pdl_semantics.specs.Tree.{Span, Literal, Expr, Constant, Variable, Slice, Not, Binary, Cat, LessSigned, ZeroExtend, SignExtend, Choose, Param}
-use Rattle.pdl_semantics.specs.Flatten.{Var, widest, var_width, op_width, width_of}
+use Rattle.pdl_semantics.specs.Flatten.{Var, var_width, op_width, width_of}
 use Rattle.pdl_rules.specs.Parts.{some_part, of_constant}
 use Rattle.pdl_rules.specs.Limits.{is_width, is_wrong_literal}
 use Rattle.pdl_rules.specs.Names.{Use, OfVariable, reads_some}
 use Rattle.pdl_rules.specs.Widths.{is_unequal, is_too_large, is_out_of_range, is_no_extension, is_wide_choice}
 use Rattle.pdl_rules.specs.Typed.{is_named, Holds, IsTyped, AreArguments, AreStarts}
+use Rattle.pdl_semantics.specs.Words.{widest}
 
 -- TESTS OF EXPRESSIONS
 
@@ -49,18 +50,18 @@ holds (Some v) w s e = leb-false (2 ^ w) v e
 literal_holds : (l : Literal) → is_too_large l ≡ false → Holds l.value l.width
 literal_holds l e = holds l.value l.width l.span e
 
--- a width that the limits allow is from 1 to 64
-pub width_is : (w : ℕ) → not (is_width w) ≡ false → (1 ≤ w) × (w ≤ 64)
+-- a width that the limits allow is from 1 to widest
+pub width_is : (w : ℕ) → not (is_width w) ≡ false → (1 ≤ w) × (w ≤ widest)
 width_is w e =
-    let parts = and_parts (nat_le 1 w) (nat_le w 64) (not-false _ e) in
-    (leb-true 1 w parts.0, leb-true w 64 parts.1)
+    let parts = and_parts (nat_le 1 w) (nat_le w widest) (not-false _ e) in
+    (leb-true 1 w parts.0, leb-true w widest parts.1)
 
 -- EXPRESSIONS
 
-extends : (w n : ℕ) → is_no_extension w n ≡ false → (w ≤ n) × (n ≤ 64)
+extends : (w n : ℕ) → is_no_extension w n ≡ false → (w ≤ n) × (n ≤ widest)
 extends w n e =
-    let parts = or_parts (nat_lt n w) (nat_lt 64 n) e in
-    (ltb-false n w parts.0, ltb-false 64 n parts.1)
+    let parts = or_parts (nat_lt n w) (nat_lt widest n) e in
+    (ltb-false n w parts.0, ltb-false widest n parts.1)
 
 equal_if : (m n : ℕ) → not (m == n) ≡ false → m ≡ n
 equal_if m n e = eqb-true m n (not-false _ e)
@@ -92,7 +93,7 @@ module _ (vs all : List Var) (early : Use → Bool)
   typed (Cat a b) f =
       let left = typed a (fits_part early all _ (of_one a) (λ test h. (or_parts _ (some_part test b) (or_parts (test (Cat a b)) _ h).1).0) f) in
       let right = typed b (fits_part early all _ (of_one b) (λ test h. (or_parts (some_part test a) _ (or_parts (test (Cat a b)) _ h).1).1) f) in
-      let few : width_of all a + width_of all b ≤ 64 = ltb-false 64 _ (or_parts _ _ f.ranges).0 in
+      let few : width_of all a + width_of all b ≤ widest = ltb-false widest _ (or_parts _ _ f.ranges).0 in
       let on_left = left.1 in
       let on_right = right.1 in
       ((left.0, right.0, omega arith), ap₂ (λ m n. if nat_lt widest (m + n) then 1 else m + n) left.1 right.1)

@@ -7,6 +7,7 @@ use Rattle.pdl_semantics.specs.Flat.{is_delayed, is_advisory}
 use Rattle.pdl_rules.specs.Places.{Guard, Place, Parameter, Memory, Statement, End, StartClause, at_statement, guard_of, is_among, guards}
 use Rattle.pdl_rules.specs.Forms.{of_if, separates}
 use Rattle.pdl_rules.specs.Parts.{parts_of, some_literal, is_some_and}
+use Rattle.pdl_semantics.specs.Words.{widest}
 
 -- Z1: a source of more than 1,048,576 bytes
 abbrev pub is_too_long : List ℕ → Bool
@@ -64,9 +65,9 @@ adds_guard before g = not (is_among g (guards before)) && (length (guards before
 abbrev pub breaks_z6 : List Place → Place → Bool
 breaks_z6 before x = at_statement false (λ s bs. of_if false (λ from c. adds_guard before (guard_of from c)) s) x
 
--- whether a number is an allowed width, from 1 to 64
+-- whether a number is an allowed width, from 1 to widest
 abbrev pub is_width : ℕ → Bool
-is_width w = nat_le 1 w && nat_le w 64
+is_width w = nat_le 1 w && nat_le w widest
 
 -- the depths of memories: the powers of two from 2 to 65,536
 abbrev pub depths : List ℕ
@@ -94,11 +95,11 @@ is_wrong_lock m l = is_advisory m.kind || not (is_size l.size.value && allows_lo
 abbrev pub is_wrong_memory : Mem → Bool
 is_wrong_memory m = not (is_width m.width.value && is_depth m.depth.value) || is_some_and (is_wrong_lock m) m.lock
 
--- whether a literal's width is not from 1 to 64
+-- whether a literal's width is not from 1 to widest
 abbrev pub is_wrong_literal : Literal → Bool
 is_wrong_literal l = not (is_width l.width)
 
--- Z7 at a place: a width that is not from 1 to 64, or a depth, lock or size that is not allowed
+-- Z7 at a place: a width that is not from 1 to widest, or a depth, lock or size that is not allowed
 abbrev pub breaks_z7 : Place → Bool
 breaks_z7 (Parameter a) = not (is_width a.width.value)
 breaks_z7 (Memory m) = is_wrong_memory m

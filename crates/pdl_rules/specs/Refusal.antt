@@ -2,7 +2,7 @@
 use Rattle.std.specs.Prelude.{◌≡◌, ℕ, Bool, true, false, not, ◌&&◌, List, [], ◌∷◌, ◌++◌, if◌then◌else◌, Option, Some, None}
 use Rattle.std.specs.List.{list_all}
 use Rattle.pdl_kit.specs.declared.rule.Rule.{Rule}
-use Rattle.pdl_kit.specs.declared.rule.Rule.TheVariants.{G1, Z1, Z2, Z3, Z4, Z5, Z6, Z7, N1, N2, N3, W1, W2, W3, W4, W5, W6, F1, F2, F3, F4, F5, L1, L2, L3, L4, L5, L6, L7, L8, S1, S2, S3, S4, S5, S6, S7, I1, I2, I3, I4, I5, I6, Y1, Y2, Y3, V1, V2, V3, V4, V5, B1, B2, B3, B4, B5, A1, A2, A3, A4, A5, A6, A7, A8, P1}
+use Rattle.pdl_kit.specs.declared.rule.Rule.TheVariants.{G1, Z1, Z2, Z3, Z4, Z5, Z6, Z7, N1, N2, N3, W1, W2, W3, W4, W5, W6, F1, F2, F3, F4, F5, L1, L2, L3, L4, L5, L6, L7, L8, S1, S2, S3, S4, S5, S6, S7, I1, I2, I3, I4, I5, I6, I7, Y1, Y2, Y3, V1, V2, V3, V4, V5, B1, B2, B3, B4, B5, A1, A2, A3, A4, A5, A6, A7, A8, P1}
 use Rattle.pdl_semantics.specs.Tree.{Stmt, Separator, CombRead, Bind, SpecCall, DelayedRead, Write, Reserve, Block, Release, If, Call, Verify, Update, SpecCheck, SpecBarrier, Stmts, Nil, Cons, Mem, Pipe}
 use Rattle.pdl_semantics.specs.Flat.{is_delayed}
 use Rattle.pdl_rules.specs.Places.{Place, places, line_of}
@@ -62,6 +62,7 @@ breaks_rule I3 p before x = false
 breaks_rule I4 p before x = false
 breaks_rule I5 p before x = false
 breaks_rule I6 p before x = false
+breaks_rule I7 p before x = false
 breaks_rule Y1 p before x = false
 breaks_rule Y2 p before x = false
 breaks_rule Y3 p before x = false

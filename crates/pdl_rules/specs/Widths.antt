@@ -8,6 +8,7 @@ use Rattle.pdl_rules.specs.Places.{Place, Parameter, Memory, Statement, End, Sta
 use Rattle.pdl_rules.specs.Forms.{of_if, writes}
 use Rattle.pdl_rules.specs.Parts.{NoExpressions, One, Arguments, Expressions, parts_of, some_part, some_expr, some_literal, some_location}
 use Rattle.pdl_rules.specs.Limits.{depths}
+use Rattle.pdl_semantics.specs.Words.{widest}
 
 -- VARIABLES
 
@@ -72,18 +73,18 @@ is_too_large l = too_large l.value
     too_large None = true
     too_large (Some v) = nat_le (2 ^ l.width) v
 
--- whether an extension from one width to another is to less, or to more than 64 bits
+-- whether an extension from one width to another is to less, or to more than the widest word has
 abbrev pub is_no_extension : ℕ → ℕ → Bool
-is_no_extension w n = nat_lt n w || nat_lt 64 n
+is_no_extension w n = nat_lt n w || nat_lt widest n
 
--- whether an expression is a slice that isn't there, a wrong extension, or more than 64 bits side by side
+-- whether an expression is a slice that isn't there, a wrong extension, or more bits side by side than the widest word has
 abbrev pub is_out_of_range : List Var → Expr → Bool
 is_out_of_range vs (Constant _) = false
 is_out_of_range vs (Variable _) = false
 is_out_of_range vs (Slice x high low) = nat_lt high.value low.value || nat_le (var_width vs x.name) high.value
 is_out_of_range vs (Not _) = false
 is_out_of_range vs (Binary _ _ _) = false
-is_out_of_range vs (Cat a b) = nat_lt 64 (width_of vs a + width_of vs b)
+is_out_of_range vs (Cat a b) = nat_lt widest (width_of vs a + width_of vs b)
 is_out_of_range vs (LessSigned _ _) = false
 is_out_of_range vs (ZeroExtend a n) = is_no_extension (width_of vs a) n.value
 is_out_of_range vs (SignExtend a n) = is_no_extension (width_of vs a) n.value

@@ -5,12 +5,13 @@ ghost use Rattle.pdl_rules.specs.Limits as spec;
 ghost use Rattle.pdl_rules.specs.Parts.{is_some_and};
 
 use pdl_syntax_tree::{LockDecl, LockKind, Mem};
+use pdl_word::WIDEST;
 
 /// Whether a value or a word may have as many bits.
 pub fn is_width(width: u64) -> bool
     ensures { result ≡ spec.is_width width }
 {
-    1 <= width && width <= 64
+    1 <= width && width <= u64::from(WIDEST)
 }
 
 /// Whether a memory has a wrong width, depth or lock.

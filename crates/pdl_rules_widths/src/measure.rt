@@ -5,10 +5,12 @@ ghost use Rattle.pdl_semantics.specs.Flatten as flatten;
 ghost use Rattle.pdl_syntax_tree.specs.View.{expr_view, exprs_view, literal_view};
 ghost use Rattle.pdl_rules.specs.Parts.{some_part, of_constant};
 ghost use Rattle.pdl_rules.specs.Widths as spec;
+ghost use Rattle.pdl_word.specs.Words.{widest};
 
 use crate::variables::Variables;
 use crate::width::{cat_width, op_width, slice_width};
 use pdl_syntax_tree::{Expr, Literal};
+use pdl_word::WIDEST;
 
 /// The width of an expression, and whether a part of it has operands of two widths, is out of range, is a choice by more than one bit, or is a literal that is too large for its width.
 #[derive(Clone, Copy)]
@@ -122,16 +124,16 @@ fn of_operands(width: u128, a: Measure, b: Measure) -> Measure
 
 // Two expressions side by side.
 fn of_cat(a: Measure, b: Measure) -> Measure
-    ensures width { result.width ≡ (if nat_lt 64
+    ensures width { result.width ≡ (if nat_lt widest
         (a.width + b.width) then 1 else a.width + b.width) }
     ensures unequal { result.unequal ≡ (a.unequal || b.unequal) }
     ensures out_of_range { result.out_of_range
-        ≡ (nat_lt 64 (a.width + b.width) || (a.out_of_range || b.out_of_range)) }
+        ≡ (nat_lt widest (a.width + b.width) || (a.out_of_range || b.out_of_range)) }
     ensures wide_choice { result.wide_choice ≡ (a.wide_choice || b.wide_choice) }
     ensures too_large { result.too_large ≡ (a.too_large || b.too_large) }
 {
     let mut own = right(cat_width(a.width, b.width));
-    own.out_of_range = a.width.saturating_add(b.width) > 64;
+    own.out_of_range = a.width.saturating_add(b.width) > u128::from(WIDEST);
     own.with(a.with(b))
 }
 
@@ -145,7 +147,7 @@ fn of_extension(width: u64, a: Measure) -> Measure
     ensures too_large { result.too_large ≡ a.too_large }
 {
     let mut own = right(width as u128);
-    own.out_of_range = (width as u128) < a.width || width > 64;
+    own.out_of_range = (width as u128) < a.width || width > u64::from(WIDEST);
     own.with(a)
 }
 
@@ -173,7 +175,7 @@ pub fn is_too_large(literal: &Literal) -> bool
     match literal.value {
         None => true,
         Some(value) => {
-            if literal.width < 64 {
+            if literal.width < u64::from(WIDEST) {
                 value >> literal.width != 0
             } else {
                 false

@@ -2,9 +2,11 @@
 ghost use Rattle.std.specs.Prelude.{◌≡◌, ◌+◌, ◌-◌, if◌then◌else◌, nat_lt};
 ghost use Rattle.pdl_semantics.specs.Flatten as spec;
 ghost use Rattle.pdl_syntax_tree.specs.View.{expr_view, op_view};
+ghost use Rattle.pdl_word.specs.Words.{widest};
 
 use crate::variables::Variables;
 use pdl_syntax_tree::{BinaryOp, Expr};
+use pdl_word::WIDEST;
 
 /// The width of an expression in bits, defined also where it breaks a rule.
 pub fn width_of(variables: &Variables, e: &Expr) -> u128
@@ -49,8 +51,8 @@ pub fn op_width(op: BinaryOp, width: u128) -> u128
 
 /// The width of two values side by side, 1 where they are too wide together.
 pub fn cat_width(above: u128, below: u128) -> u128
-    ensures { result ≡ (if nat_lt 64 (above + below) then 1 else above + below) }
+    ensures { result ≡ (if nat_lt widest (above + below) then 1 else above + below) }
 {
     let both = above.saturating_add(below);
-    if both > 64 { 1 } else { both }
+    if both > u128::from(WIDEST) { 1 } else { both }
 }

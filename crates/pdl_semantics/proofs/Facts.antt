@@ -14,6 +14,7 @@ use Rattle.std.specs.Prelude.{slice_set}
 use Rattle.std.proofs.lemmas.List.{length-set}
 use Rattle.pdl_semantics.specs.Stages.{merges_fork}
 use Rattle.std.proofs.lemmas.Bool.{eqb-true, false≢true}
+use Rattle.pdl_word.specs.Words.{widest}
 
 -- all elements of a list and one more at its end pass a test if those of the list do, and this one
 pub all_push : {X : Type 0} (test : X → Bool) (xs : List X) (x : X) → list_all test (xs ++ x ∷ []) ≡ (list_all test xs && test x)
@@ -48,8 +49,8 @@ put_all_length m n (w ∷ ws) xs = put_all_length m n ws (if w.mem == m then wit
     at true = put_length n w.var w.value xs
     at false = refl
 
--- no operator makes a word wider than 64 bits
-pub op_narrow : (op : BinaryOp) (w : ℕ) → w ≤ 64 → op_width op w ≤ 64
+-- no operator makes a word wider than the widest
+pub op_narrow : (op : BinaryOp) (w : ℕ) → w ≤ widest → op_width op w ≤ widest
 op_narrow Equal w h = omega arith
 op_narrow Differ w h = omega arith
 op_narrow Less w h = omega arith

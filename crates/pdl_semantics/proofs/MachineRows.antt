@@ -285,7 +285,7 @@ addresses_asked = refl
 slice_of_no_bits : width_of [] (bits_from "n" 1 2) ≡ 1
 slice_of_no_bits = refl
 
-too_many_together : width_of [] (Cat (constant 64 0) (constant 1 0)) ≡ 1
+too_many_together : width_of [] (Cat (constant 128 0) (constant 1 0)) ≡ 1
 too_many_together = refl
 
 -- the answer for a thread that has guessed wrong may be late

@@ -3,10 +3,7 @@ use Rattle.std.specs.Prelude.{ℕ, suc, ◌+◌, ◌-◌, Bool, true, false, Lis
 use Rattle.pdl_semantics.specs.Tree.{Literal, BinaryOp, Add, Sub, Mul, And, Or, Xor, Equal, Differ, Less, ShiftLeft, ShiftRight, Expr, Constant, Variable, Slice, Not, Binary, Cat, LessSigned, ZeroExtend, SignExtend, Choose, Kind, R, W, Stmt, Separator, CombRead, Bind, SpecCall, DelayedRead, Write, Reserve, Block, Release, If, Call, Verify, Update, SpecCheck, SpecBarrier, Stmts, Nil, Cons, Param, LockKind, Queue, Bypass, Rename, LockDecl, Mem, Pipe}
 use Rattle.pdl_semantics.specs.Flat
 use Rattle.pdl_semantics.specs.Stages.{is_reserve, is_release}
-
--- the greatest width of a value in bits
-abbrev pub widest : ℕ
-widest = 64
+use Rattle.pdl_word.specs.Words.{widest}
 
 -- a variable with its width, and whether it is advised; the guard of an `if` on an expression is a variable without name
 pub record Var : Type 0 where

@@ -17,7 +17,7 @@ pub record Number : Type 0 where
   pub value : ℕ
   pub span : Span
 
--- a literal; a value of 2 ^ 64 or more, which fits no width, is none
+-- a literal; a value that no word has is none
 pub record Literal : Type 0 where
   pub width : ℕ
   pub value : Option ℕ

@@ -11,9 +11,10 @@ use crate::turn::Turn;
 use crate::words::Words;
 use pdl_form::{FlatExpr, Op};
 use pdl_form_values::{value_of, values_of, variable};
+use pdl_word::Word;
 
 // A variable is bound to the value of an expression.
-fn bind(x: usize, e: &FlatExpr, values: &mut [u64])
+fn bind(x: usize, e: &FlatExpr, values: &mut [Word])
     requires there { x < length values.old }
     requires safe { IsSafe (expr_view e.now) values.old }
     ensures { values.new ≡ slice_set values.old x (spec_value_of (expr_view e.now) values.old) }
@@ -23,7 +24,7 @@ fn bind(x: usize, e: &FlatExpr, values: &mut [u64])
 }
 
 // A variable is bound to a word of a memory.
-fn read_word(memories: &[Words], x: usize, m: usize, a: usize, values: &mut [u64])
+fn read_word(memories: &[Words], x: usize, m: usize, a: usize, values: &mut [Word])
     requires there { x < length values.old }
     requires memory { m < length memories.now }
     ensures { values.new ≡ slice_set values.old x
@@ -35,7 +36,7 @@ fn read_word(memories: &[Words], x: usize, m: usize, a: usize, values: &mut [u64
 }
 
 // A word of a memory is written.
-fn put_word(memories: &mut [Words], m: usize, address: u64, value: u64)
+fn put_word(memories: &mut [Words], m: usize, address: Word, value: Word)
     requires memory { m < length memories.old }
     requires word { address < length (list_at memories.old m) }
     ensures arrays { arrays_of memories.new ≡ with_word (arrays_of memories.old) m address value }

@@ -8,6 +8,7 @@ use crate::words::Words;
 use pdl_form::FlatPipe;
 use pdl_image::Image;
 use pdl_kit::NoMemory;
+use pdl_word::Word;
 use std::alloc::Global;
 
 /// How many writes a thread has at most.
@@ -37,7 +38,7 @@ fn memories(alloc: Global, image: &Image, count: usize) -> Result<Vec<Words>, No
 }
 
 // So many zeros.
-fn zeros(alloc: Global, count: usize) -> Result<Vec<u64>, NoMemory>
+fn zeros(alloc: Global, count: usize) -> Result<Vec<Word>, NoMemory>
     ensures { IfOk result (λ v. v.items ≡ replicate count 0) }
 {
     let mut words = Vec::new(alloc);
@@ -46,7 +47,7 @@ fn zeros(alloc: Global, count: usize) -> Result<Vec<u64>, NoMemory>
 }
 
 // The arguments of the first thread.
-fn first_args(alloc: Global, start: &[u64]) -> Result<Vec<u64>, NoMemory>
+fn first_args(alloc: Global, start: &[Word]) -> Result<Vec<Word>, NoMemory>
     ensures items { IfOk result (λ v. v.items ≡ start.now) }
     ensures room { IfOk result (λ v. length start.now ≤ vec_capacity v) }
 {

@@ -13,13 +13,14 @@ use crate::commit::Commit;
 use crate::words::Words;
 use pdl_form::{FlatPipe, FlatStmt};
 use pdl_form_values::are_taken;
+use pdl_word::Word;
 
 /// A thread on its way: the words of the memories, its variables, the next thread's arguments, and its writes so far.
 #[derive(Drop)]
 pub struct Turn {
     pub memories: Vec<Words>,
-    pub values: Vec<u64>,
-    pub next: Vec<u64>,
+    pub values: Vec<Word>,
+    pub next: Vec<Word>,
     pub commits: Vec<Commit>,
 }
 

@@ -2,13 +2,14 @@
 ghost use Rattle.std.specs.Prelude.{◌≡◌, ◌<◌, length, slice_index, slice_set, IfOk};
 
 use pdl_kit::NoMemory;
+use pdl_word::{Word, word_at};
 use std::alloc::Global;
 use std::marker::Model;
 
 /// The words of a memory by their addresses, which contracts see as their list.
 #[derive(Drop)]
 pub struct Words {
-    words: Vec<u64>,
+    words: Vec<Word>,
 }
 
 impl Model for Words {
@@ -21,7 +22,7 @@ impl Model for Words {
 
 impl Words {
     /// A copy of these words.
-    pub fn new(alloc: Global, words: &[u64]) -> Result<Words, NoMemory>
+    pub fn new(alloc: Global, words: &[Word]) -> Result<Words, NoMemory>
         ensures { IfOk result (λ w. w ≡ words.now) }
     {
         Ok(Words {
@@ -30,17 +31,14 @@ impl Words {
     }
 
     /// The word at an address, 0 past the end.
-    pub fn read(&self, address: u64) -> u64
+    pub fn read(&self, address: Word) -> Word
         ensures { result ≡ slice_index self.now address }
     {
-        match self.words.as_slice().get(address as usize) {
-            Some(word) => *word,
-            None => 0,
-        }
+        word_at(self.words.as_slice(), address)
     }
 
     /// Writes the word at an address.
-    pub fn write(&mut self, address: u64, value: u64)
+    pub fn write(&mut self, address: Word, value: Word)
         requires { address < length self.old }
         ensures { self.new ≡ slice_set self.old address value }
     {

@@ -27,6 +27,7 @@ use Rattle.pdl_netrun_wave.proofs.PortWidths.{fit_next, fit_row, fit_start, port
 use Rattle.pdl_netrun_wave.proofs.DumpedRuns.{rows_length}
 use Rattle.pdl_source_written.proofs.Names.{IsShortWord, name_word}
 use Rattle.pdl_source_written.proofs.Ports.{named_by, pipe_words, pipe_count, wave_words, wave_count}
+use Rattle.pdl_word.specs.Words.{widest}
 
 module _ (source : List ℕ) (p : Pipe) (n : Netlist) (t : IsText source p) (kept : KeepsRules p) (f : Follows p n) where
   -- whether some path reserves a memory twice for writing
@@ -65,7 +66,7 @@ module _ (source : List ℕ) (p : Pipe) (n : Netlist) (t : IsText source p) (kep
   }
 
   ports_well : (ps : List WavePort) → Each (λ (q : WavePort). IsShortWord 64 q.name) ps
-      → All (λ (q : WavePort). (1 ≤ q.width) × (q.width ≤ 64)) ps → Each IsPort ps
+      → All (λ (q : WavePort). (1 ≤ q.width) × (q.width ≤ widest)) ps → Each IsPort ps
   ports_well [] h w = tt
   ports_well (q ∷ qs) h w =
       let here = w 0 q (omega arith) in

@@ -1,26 +1,28 @@
 -- Digits, one after the other.
-use Rattle.std.proofs.Common.{◌≡◌, ℕ, ◌+◌, ◌*◌, ◌^◌, ◌<◌, ◌≤◌, ◌⊎◌, inl, inr, List, [], ◌∷◌, ◌++◌, take, length, get_or, Option, Some, None, refl, sym, ap, ◌∙◌, arith}
+use Rattle.std.proofs.Common.{◌≡◌, ℕ, ◌+◌, ◌*◌, ◌^◌, ◌<◌, ◌≤◌, ◌⊎◌, inl, inr, List, [], ◌∷◌, ◌++◌, take, length, get_or, Option, Some, None, refl, sym, ap, ◌∙◌, arith, subst}
 use Rattle.std.proofs.Math.Nat.{le-mul_of_pos_right, mul-le-mul_right, pow-suc, pow-le-pow_right}
 use Rattle.std.proofs.lemmas.Bool.{cases_lt}
 use Rattle.std.proofs.lemmas.Bool.Decides.{nat_tests}
 use Rattle.std.proofs.lemmas.List.{take_more}
+use Rattle.std.proofs.lemmas.Option.{same_Some}
 use Rattle.pdl_syntax_tokens.specs.Tokens.{digit_value, value_from, value_of, fitting}
 use Rattle.pdl_syntax_tokens.specs.DigitValues.{with_digit}
+use Rattle.pdl_word.specs.Words.{widest}
 
 value_from-append : (base v : ℕ) (xs : List ℕ) (c : ℕ) → value_from base v (xs ++ c ∷ []) ≡ value_from base v xs * base + digit_value c
 value_from-append base v [] c = refl
 value_from-append base v (x ∷ xs) c = value_from-append base (v * base + digit_value x) xs c
 
-fits : (v : ℕ) → v < 2 ^ 64 → fitting v ≡ Some v
+fits : (v : ℕ) → v < 2 ^ widest → fitting v ≡ Some v
 fits v h = grind (arith, nat_tests)
 
-fits_not : (v : ℕ) → 2 ^ 64 ≤ v → fitting v ≡ None
+fits_not : (v : ℕ) → 2 ^ widest ≤ v → fitting v ≡ None
 fits_not v h = grind (arith, nat_tests)
 
 with_fitting : (base v c : ℕ) → 1 ≤ base → with_digit base (fitting v) c ≡ fitting (v * base + digit_value c)
-with_fitting base v c h = go (cases_lt v (2 ^ 64))
+with_fitting base v c h = go (cases_lt v (2 ^ widest))
   where
-    go : (v < 2 ^ 64) ⊎ (2 ^ 64 ≤ v) → with_digit base (fitting v) c ≡ fitting (v * base + digit_value c)
+    go : (v < 2 ^ widest) ⊎ (2 ^ widest ≤ v) → with_digit base (fitting v) c ≡ fitting (v * base + digit_value c)
     go (inl lt) = rw (fits v lt) refl
     go (inr ge) = let k : v ≤ v * base = le-mul_of_pos_right v h in
         let d = digit_value c in
@@ -48,7 +50,18 @@ value_bound v (x ∷ xs) = let k = value_bound (v * 10 + digit_value x) xs in
     let j = power v (digit_value x) (length xs) (10 ^ length xs) (small_digit x) refl in
     rw pow-suc (omega (arith, k, j))
 
+below_ten : (xs : List ℕ) → length xs ≤ 10 → value_of 10 xs < 2 ^ 64
+below_ten xs h =
+    let k = value_bound 0 xs in
+    let j : 10 ^ length xs ≤ 10 ^ 10 = pow-le-pow_right (omega arith) h in
+    omega (arith, k, j)
+
 -- ten digits fit
 pub ten_digits : (xs : List ℕ) → length xs ≤ 10 → fitting (value_of 10 xs) ≡ Some (value_of 10 xs)
-ten_digits xs h = let k = value_bound 0 xs in let j : 10 ^ length xs ≤ 10 ^ 10 = pow-le-pow_right (omega arith) h in
-    let i : value_of 10 xs < 2 ^ 64 = omega (arith, k, j) in fits (value_of 10 xs) i
+ten_digits xs h = fits (value_of 10 xs) (let k = below_ten xs h in omega arith)
+
+-- and their value fits 64 bits
+pub ten_small : (xs : List ℕ) (v : ℕ) → length xs ≤ 10 → Some v ≡ fitting (value_of 10 xs) → v < 2 ^ 64
+ten_small xs v h e =
+    let P : ℕ → Type 0 = λ n. n < 2 ^ 64 in
+    subst P (sym (same_Some _ _ (e ∙ ten_digits xs h))) (below_ten xs h)

@@ -1,4 +1,4 @@
--- The value of digits, one digit after the other, as long as it fits 64 bits.
+-- The value of digits, one digit after the other, as long as it fits the widest word.
 use Rattle.std.specs.Prelude.{ℕ, ◌+◌, ◌*◌, Option, Some, None}
 use Rattle.pdl_syntax_tokens.specs.Tokens.{digit_value, fitting}
 

@@ -7,6 +7,8 @@ use Rattle.pdl_syntax_tokens.specs.declared.token.Mark.{Mark}
 use Rattle.pdl_syntax_tokens.specs.declared.token.Mark.TheVariants as mark
 use Rattle.pdl_syntax_tokens.specs.declared.token.TokenKind.{TokenKind}
 use Rattle.pdl_syntax_tokens.specs.declared.token.TokenKind.TheVariants as kind
+use Rattle.pdl_word.specs.Digits.{most_hex, most_decimal}
+use Rattle.pdl_word.specs.Words.{widest}
 
 -- a token: what it is, its bytes, and where they stand
 pub record Token : Type 0 where
@@ -107,9 +109,9 @@ value_from base v (c ∷ cs) = value_from base (v * base + digit_value c) cs
 abbrev pub value_of : ℕ → List ℕ → ℕ
 value_of base digits = value_from base 0 digits
 
--- the value where it fits 64 bits
+-- the value where it fits the widest word
 abbrev pub fitting : ℕ → Option ℕ
-fitting v = cond (nat_lt v (2 ^ 64)) (Some v) None
+fitting v = cond (nat_lt v (2 ^ widest)) (Some v) None
 
 -- ---- pieces
 
@@ -142,9 +144,13 @@ word_at bytes = token_of (word_kind (take_while is_word bytes)) (prefix_len is_w
 abbrev pub number_kind : List ℕ → TokenKind
 number_kind digits = cond (nat_le (length digits) 10) (kind.Number (value_of 10 digits)) kind.Bad
 
--- a literal: a number for its width, and at most 20 digits in its base
+-- how many digits of a base a literal may have: those of the widest words
+abbrev pub most_digits : ℕ → ℕ
+most_digits base = cond (base == 16) most_hex most_decimal
+
+-- a literal: a number for its width, and at most so many digits in its base
 abbrev pub literal_kind : List ℕ → ℕ → List ℕ → TokenKind
-literal_kind width base digits = cond (nat_le (length width) 10 && nat_le (length digits) 20)
+literal_kind width base digits = cond (nat_le (length width) 10 && nat_le (length digits) (most_digits base))
     (kind.Literal (value_of 10 width) (fitting (value_of base digits))) kind.Bad
 
 -- the digits after a mark of their base, none where it doesn't stand there

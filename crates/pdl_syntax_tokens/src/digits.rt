@@ -6,29 +6,30 @@ ghost use Rattle.pdl_syntax_tokens.specs.DigitValues.{with_digit};
 
 use crate::bytes::{digit_length, hex_length, is_digit, is_hex};
 use crate::token::TokenKind;
+use pdl_word::{MOST_DECIMAL, MOST_HEX, Word};
 
 // The value of a digit of base 10 or 16.
-fn digit_value(c: u8) -> u64
+fn digit_value(c: u8) -> Word
     ensures { result ≡ spec.digit_value c }
 {
     if is_digit(c) {
-        c as u64 - 48
+        Word::from(c) - 48
     } else if is_hex(c) {
-        c as u64 - 87
+        Word::from(c) - 87
     } else {
         0
     }
 }
 
 // The value with one more digit, where it fits.
-fn with_digit(value: Option<u64>, base: u64, c: u8) -> Option<u64>
+fn with_digit(value: Option<Word>, base: Word, c: u8) -> Option<Word>
     ensures { result ≡ with_digit base value c }
 {
     value?.checked_mul(base)?.checked_add(digit_value(c))
 }
 
-// The value of digits, where it is below 2^64.
-fn digits_value(digits: &[u8], base: u64) -> Option<u64>
+// The value of digits, where it fits a `Word`.
+fn digits_value(digits: &[u8], base: Word) -> Option<Word>
     requires { 1 ≤ base }
     ensures { result ≡ spec.fitting (spec.value_of base digits.now) }
 {
@@ -40,7 +41,7 @@ fn digits_value(digits: &[u8], base: u64) -> Option<u64>
 }
 
 /// A number of at most 10 digits.
-#[tactic(auto, using(crate::proofs::Values::ten_digits))]
+#[tactic(auto, using(crate::proofs::Values::ten_digits, crate::proofs::Values::ten_small))]
 pub fn number_kind(digits: &[u8]) -> TokenKind
     ensures { result ≡ spec.number_kind digits.now }
 {
@@ -48,17 +49,24 @@ pub fn number_kind(digits: &[u8]) -> TokenKind
         return TokenKind::Bad;
     }
     match digits_value(digits, 10) {
-        Some(value) => TokenKind::Number(value),
+        Some(value) => TokenKind::Number(value as u64),
         None => TokenKind::Bad,
     }
 }
 
-/// A literal: a number for its width, and at most 20 digits in a base.
-pub fn literal_kind(width: &[u8], base: u64, digits: &[u8]) -> TokenKind
+// How many digits of a base a literal may have.
+fn most_digits(base: Word) -> usize
+    ensures { result ≡ spec.most_digits base }
+{
+    if base == 16 { MOST_HEX } else { MOST_DECIMAL }
+}
+
+/// A literal: a number for its width, and digits in a base, at most `MOST_HEX` in base 16 and else at most `MOST_DECIMAL`.
+pub fn literal_kind(width: &[u8], base: Word, digits: &[u8]) -> TokenKind
     requires { 1 ≤ base }
     ensures { result ≡ spec.literal_kind width.now base digits.now }
 {
-    if digits.len() > 20 {
+    if digits.len() > most_digits(base) {
         return TokenKind::Bad;
     }
     match number_kind(width) {

@@ -1,5 +1,6 @@
 // The tokens of a source text.
 use pdl_syntax_tree::tree::Span;
+use pdl_word::Word;
 
 /// A keyword or a symbol.
 #[derive(Clone, Copy, PartialEq, Eq)]
@@ -60,12 +61,12 @@ pub enum Mark {
     Separator,
 }
 
-/// What a token is. A literal whose value is 2^64 or more has none. A byte that begins no token, a name over 32 characters and digits that are too many are bad.
+/// What a token is. A literal whose value fits no `Word` has none. A byte that begins no token, a name over 32 characters and digits that are too many are bad.
 #[derive(Clone, Copy, PartialEq, Eq)]
 pub enum TokenKind {
     Name,
     Number(u64),
-    Literal { width: u64, value: Option<u64> },
+    Literal { width: u64, value: Option<Word> },
     Mark(Mark),
     Bad,
 }

@@ -4,6 +4,7 @@ ghost use Rattle.pdl_semantics.specs.Flat.{is_delayed, is_advisory};
 ghost use Rattle.pdl_syntax_tree.specs.View.{mem_kind_view};
 
 use pdl_kit::{Boxed, Name, Seq};
+use pdl_word::Word;
 
 /// Where words stand in the source: the bytes from `start` up to `end`, counted from 0, the last one left out, and the line of the first, counted from 1.
 #[derive(Clone, Copy)]
@@ -27,11 +28,11 @@ pub struct Number {
     pub span: Span,
 }
 
-/// A literal with its width in bits; a value of 2^64 or more, which fits no width, is none.
+/// A literal with its width in bits; a value that fits no `Word` is none.
 #[derive(Clone, Copy)]
 pub struct Literal {
     pub width: u64,
-    pub value: Option<u64>,
+    pub value: Option<Word>,
     pub span: Span,
 }
 

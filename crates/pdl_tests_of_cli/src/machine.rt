@@ -14,12 +14,13 @@ use pdl_kit::files::LONGEST_FILE;
 use pdl_kit::{MemSink, NoMemory};
 use pdl_machine::Machine;
 use pdl_trace::{commit_line, end_line};
+use pdl_word::{WIDEST, Word};
 use std::alloc::Global;
 use std::mem::drop;
 use std::process::Abort;
 
 // An output of the machine in its last cycle, 0 where there is none at this place.
-fn shown(machine: &Machine<'_>, i: usize) -> u64 {
+fn shown(machine: &Machine<'_>, i: usize) -> Word {
     if i < machine.port_count() {
         machine.port(i)
     } else {
@@ -35,8 +36,11 @@ fn push_ports(
     mem: &FlatMem,
     at: usize,
 ) -> Result<(), NoMemory> {
-    if shown(machine, at) == 1 && mem.name.len() <= 32 && mem.width <= 64 {
-        let address = shown(machine, at.saturating_add(1));
+    if shown(machine, at) == 1 && mem.name.len() <= 32 && mem.width <= WIDEST {
+        let address = match u64::try_from(shown(machine, at.saturating_add(1))) {
+            Ok(address) => address,
+            Err(_) => return Ok(()),
+        };
         let value = shown(machine, at.saturating_add(2));
         let line = commit_line(cycle, &mem.name, address, value, mem.width);
         text.extend_from_slice(line.as_bytes())?;

@@ -4,17 +4,18 @@ ghost use Rattle.std.specs.Prelude.{◌≡◌};
 use pdl_form::Lock;
 use pdl_kit::NoMemory;
 use pdl_machine_pending::{Memory, Reserved, Written};
+use pdl_word::Word;
 use std::alloc::Global;
 
 // A reservation of a memory by a variable, at this address.
-fn reserved(mem: usize, var: usize, address: u64) -> Reserved
+fn reserved(mem: usize, var: usize, address: Word) -> Reserved
     ensures { result ≡ record { mem = mem; var = var; address = address } }
 {
     Reserved { mem, var, address }
 }
 
 // A value for the reservation of memory 0 by a variable.
-fn written(var: usize, value: u64) -> Written
+fn written(var: usize, value: Word) -> Written
     ensures { result ≡ record { mem = 0; var = var; value = value } }
 {
     Written { mem: 0, var, value }

@@ -100,7 +100,7 @@ const NUMBERS: [(&[u8], &[TokenKind]); 6] = [
         &[
             TokenKind::Literal {
                 width: 64,
-                value: Some(u64::MAX),
+                value: Some(0xffff_ffff_ffff_ffff),
             },
             NAME,
         ],
@@ -109,10 +109,18 @@ const NUMBERS: [(&[u8], &[TokenKind]); 6] = [
         b"64'd18446744073709551616",
         &[TokenKind::Literal {
             width: 64,
+            value: Some(0x1_0000_0000_0000_0000),
+        }],
+    ),
+    (
+        b"128'd340282366920938463463374607431768211456",
+        &[TokenKind::Literal {
+            width: 128,
             value: None,
         }],
     ),
-    (b"1'h123456789abcdef012345", &[BAD]),
+    (b"1'd0000000000000000000000000000000000000000", &[BAD]),
+    (b"1'h123456789abcdef0123456789abcdef01", &[BAD]),
     (
         b"4'd 1'b 2'hF",
         &[

@@ -3,10 +3,11 @@ use pdl_form::{FlatExpr, FlatGuard};
 use pdl_form_values::{are_taken, value_of, values_of};
 use pdl_kit::{Boxed, NoMemory};
 use pdl_syntax_tree::BinaryOp;
+use pdl_word::Word;
 use std::alloc::Global;
 
 /// 200 and 100 in 8 bits.
-fn sum(alloc: Global) -> Result<u64, NoMemory> {
+fn sum(alloc: Global) -> Result<Word, NoMemory> {
     let (width, value) = (8, 100);
     let a = Boxed::new(alloc, FlatExpr::Variable(0))?;
     let b = Boxed::new(alloc, FlatExpr::Constant { width, value })?;
@@ -15,7 +16,7 @@ fn sum(alloc: Global) -> Result<u64, NoMemory> {
 }
 
 /// The upper half of 200.
-fn upper() -> u64 {
+fn upper() -> Word {
     let (x, high, low) = (0, 7, 4);
     value_of(&FlatExpr::Slice { x, high, low }, &[200])
 }

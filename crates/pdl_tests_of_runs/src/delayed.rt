@@ -73,9 +73,13 @@ fn with_cycle(counts: DelayedCounts, machine: &Machine<'_>) -> DelayedCounts {
         return counts;
     }
     DelayedCounts {
-        ended: counts.ended.saturating_add(machine.port(outputs - 2)),
+        ended: counts
+            .ended
+            .saturating_add(u64::from(machine.port(outputs - 2) == 1)),
         waits: counts.waits.saturating_add(u64::from(machine.waited())),
-        squashes: counts.squashes.saturating_add(machine.port(outputs - 1)),
+        squashes: counts
+            .squashes
+            .saturating_add(u64::from(machine.port(outputs - 1) == 1)),
     }
 }
 

@@ -1,5 +1,6 @@
 // What generated runs are made of.
 use pdl_gen::{source, step, words};
+use pdl_word::Word;
 use std::alloc::Global;
 
 const SOURCE: &[u8] =
@@ -13,7 +14,7 @@ fn is_source(alloc: Global, n: u32, wanted: &[u8]) -> bool {
 }
 
 // How many words the memory of a run has at the start, and the first of them.
-fn first_word(alloc: Global, n: u32) -> Option<(usize, u64)> {
+fn first_word(alloc: Global, n: u32) -> Option<(usize, Word)> {
     match words(alloc, n) {
         Ok(image) => match image.as_slice().first() {
             Some(word) => Some((image.len(), *word)),

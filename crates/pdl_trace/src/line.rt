@@ -1,9 +1,9 @@
 // A line of text in a buffer of fixed size, so that printing takes no memory.
 ghost use Rattle.std.specs.Prelude.{◌≡◌, ◌+◌, ◌*◌, ◌≤◌, ◌<◌, ◌^◌, ◌++◌, [], ◌∷◌, length, decimal};
-ghost use Rattle.pdl_word.specs.Digits.{hex};
+ghost use Rattle.pdl_word.specs.Digits.{hex, most_hex};
 
 use itoa::Buffer;
-use pdl_word::hex_digit;
+use pdl_word::{Word, hex_digit};
 use std::marker::Model;
 
 /// A line of up to 128 bytes, its line feed included, seen as those bytes.
@@ -67,9 +67,9 @@ impl Line {
 
 impl Line {
     /// The `count` lowest hexadecimal digits of a value, most significant first.
-    pub(crate) fn push_hex(&mut self, count: u8, value: u64)
-        requires digits { count ≤ 16 }
-        requires room { length self.old + 16 ≤ 128 }
+    pub(crate) fn push_hex(&mut self, count: u8, value: Word)
+        requires digits { count ≤ most_hex }
+        requires room { length self.old + most_hex ≤ 128 }
         ensures text { self.new ≡ self.old ++ hex count value }
         ensures len { length self.new ≡ length self.old + count }
     {

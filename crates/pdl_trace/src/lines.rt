@@ -3,16 +3,18 @@ ghost use Rattle.std.specs.Prelude.{◌≡◌, ◌≤◌, ◌<◌, ◌^◌, ◌+
 ghost use Rattle.pdl_semantics.specs.Lines as text;
 ghost use Rattle.pdl_word.specs.Digits.{hex};
 ghost use Rattle.pdl_kit.specs.Rules.{text_of};
+ghost use Rattle.pdl_word.specs.Words.{widest};
 
 use crate::line::Line;
 use pdl_kit::{Name, Rule};
+use pdl_word::Word;
 
 /// The line of an image that gives a word: `<mem> <address> <hex>`.
 ///
-/// The memory's name has at most 32 bytes, its words have 1 to 64 bits, and the value fits them. The value is written in lower hexadecimal with a digit for each four bits or part of four.
-pub fn word_line(mem: &Name, address: u64, value: u64, width: u8) -> Line
+/// The memory's name has at most 32 bytes, its words have 1 to `WIDEST` bits, and the value fits them. The value is written in lower hexadecimal with a digit for each four bits or part of four.
+pub fn word_line(mem: &Name, address: u64, value: Word, width: u8) -> Line
     requires name { length mem.now ≤ 32 }
-    requires width { width ≤ 64 }
+    requires width { width ≤ widest }
     ensures { result ≡ mem.now ++ codes " " ++ decimal address ++ codes " "
         ++ hex (text.hex_digits width) value ++ codes "\n" }
 {
@@ -28,10 +30,10 @@ pub fn word_line(mem: &Name, address: u64, value: u64, width: u8) -> Line
 
 /// The line of a write in the cycle, or by the thread, of this number: `<number> <mem> <address> <value>`.
 ///
-/// The memory's name has at most 32 bytes, its words have 1 to 64 bits, and the value fits them. The value is written in lower hexadecimal with a digit for each four bits or part of four.
-pub fn commit_line(number: u32, mem: &Name, address: u64, value: u64, width: u8) -> Line
+/// The memory's name has at most 32 bytes, its words have 1 to `WIDEST` bits, and the value fits them. The value is written in lower hexadecimal with a digit for each four bits or part of four.
+pub fn commit_line(number: u32, mem: &Name, address: u64, value: Word, width: u8) -> Line
     requires name { length mem.now ≤ 32 }
-    requires width { width ≤ 64 }
+    requires width { width ≤ widest }
     ensures { result ≡ text.put_line number (record { name = mem.now; width = width })
         (record { address = address; value = value }) }
 {

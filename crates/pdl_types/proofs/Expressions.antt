@@ -1,9 +1,9 @@
--- The widths of expressions over variables of at most 64 bits.
+-- The widths of expressions over variables of at most widest bits.
 use Rattle.std.proofs.Common.{◌≡◌, refl, ℕ, ◌+◌, ◌-◌, ◌<◌, ◌≤◌, Bool, true, false, ◌||◌, List, nat_lt, nat_le, if◌then◌else◌, arith, leb-false, ltb-false}
 use Rattle.std.specs.Prelude.{IsTrue}
 use Rattle.std.proofs.lemmas.Bool.{or_parts}
 use Rattle.pdl_semantics.specs.Tree.{BinaryOp, Expr, Constant, Variable, Slice, Not, Binary, Cat, LessSigned, ZeroExtend, SignExtend, Choose}
-use Rattle.pdl_semantics.specs.Flatten.{Var, widest, var_width, width_of}
+use Rattle.pdl_semantics.specs.Flatten.{Var, var_width, width_of}
 use Rattle.pdl_rules.specs.Parts.{some_part, of_constant}
 use Rattle.pdl_rules.specs.Limits.{is_wrong_literal}
 use Rattle.pdl_rules.specs.Names.{Use, OfVariable, reads_some}
@@ -11,24 +11,25 @@ use Rattle.pdl_rules.specs.Widths.{is_out_of_range, is_no_extension}
 use Rattle.pdl_rules.specs.Typed.{is_named}
 use Rattle.pdl_rules.proofs.TypedExpressions.{width_is}
 use Rattle.pdl_semantics.proofs.Facts.{op_narrow}
+use Rattle.pdl_word.specs.Words.{widest}
 
-cat_narrow : (n : ℕ) → (if nat_lt widest n then 1 else n) ≤ 64
+cat_narrow : (n : ℕ) → (if nat_lt widest n then 1 else n) ≤ widest
 cat_narrow n = at (nat_lt widest n) refl
   where
-    at : (b : Bool) → nat_lt widest n ≡ b → (if b then 1 else n) ≤ 64
+    at : (b : Bool) → nat_lt widest n ≡ b → (if b then 1 else n) ≤ widest
     at true e = omega arith
     at false e = ltb-false widest n e
 
 -- a slice below a bound
-slice_narrow : (high low w : ℕ) → nat_lt high low ≡ false → high < w → w ≤ 64 → (if nat_lt high low then 1 else high + 1 - low) ≤ 64
+slice_narrow : (high low w : ℕ) → nat_lt high low ≡ false → high < w → w ≤ widest → (if nat_lt high low then 1 else high + 1 - low) ≤ widest
 slice_narrow high low w e l h = at (nat_lt high low) e
   where
-    at : (b : Bool) → b ≡ false → (if b then 1 else high + 1 - low) ≤ 64
+    at : (b : Bool) → b ≡ false → (if b then 1 else high + 1 - low) ≤ widest
     at true f = omega arith
     at false f = omega (arith, l, h)
 
-extension_narrow : (w n : ℕ) → is_no_extension w n ≡ false → n ≤ 64
-extension_narrow w n e = ltb-false 64 n (or_parts (nat_lt n w) (nat_lt 64 n) e).1
+extension_narrow : (w n : ℕ) → is_no_extension w n ≡ false → n ≤ widest
+extension_narrow w n e = ltb-false widest n (or_parts (nat_lt n w) (nat_lt widest n) e).1
 
 -- PARTS
 
@@ -45,10 +46,10 @@ in_choice test c a b h =
 
 -- what is asked of an expression: no use fails, all slices and extensions are in range, and all literals have widths
 module _ (vs all : List Var) (early : Use → Bool) (knows : (x : List ℕ) → early (OfVariable x) ≡ false → IsTrue (is_named vs x))
-    (stays : (x : List ℕ) → IsTrue (is_named vs x) → var_width all x ≡ var_width vs x) (narrow : (x : List ℕ) → var_width vs x ≤ 64) where
-  -- an expression whose uses, slices, extensions and literals break no rule is at most 64 bits wide, where each variable so far is
+    (stays : (x : List ℕ) → IsTrue (is_named vs x) → var_width all x ≡ var_width vs x) (narrow : (x : List ℕ) → var_width vs x ≤ widest) where
+  -- an expression whose uses, slices, extensions and literals break no rule is at most widest bits wide, where each variable so far is
   pub expr_narrow : (e : Expr) → some_part (reads_some early) e ≡ false → some_part (is_out_of_range all) e ≡ false
-      → some_part (of_constant is_wrong_literal) e ≡ false → width_of vs e ≤ 64
+      → some_part (of_constant is_wrong_literal) e ≡ false → width_of vs e ≤ widest
   expr_narrow (Constant l) u r w = (width_is l.width w).1
   expr_narrow (Variable x) u r w = narrow x.name
   expr_narrow (Slice x high low) u r w =

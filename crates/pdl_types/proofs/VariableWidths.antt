@@ -1,4 +1,4 @@
--- All variables of a pipe that keeps the rules have at most 64 bits.
+-- All variables of a pipe that keeps the rules have at most widest bits.
 use Rattle.std.proofs.Common.{◌≡◌, refl, sym, ap, ◌∙◌, subst, ℕ, ◌≤◌, Bool, true, false, ◌||◌, ◌&&◌, not, List, [], ◌∷◌, ◌++◌, map, fold, if◌then◌else◌, Some, None, bytes_eq, append_assoc, arith, ◌⊎◌, inl, inr, ⊎_elim, leb-true}
 use Rattle.std.specs.Prelude.{IsTrue, ⊤, nat_le}
 use Rattle.std.specs.List.{list_any}
@@ -22,47 +22,48 @@ use Rattle.pdl_types.specs.Narrow.{are_narrow}
 use Rattle.pdl_types.proofs.Unbroken.{KeepsWidths, here, after}
 use Rattle.pdl_types.proofs.Expressions.{expr_narrow}
 use Rattle.pdl_word.proofs.Bools.{none_given}
+use Rattle.pdl_word.specs.Words.{widest}
 
 -- VARIABLES
 
 abbrev AreNarrow : List Var → Type 0
 AreNarrow [] = ⊤
-AreNarrow (v ∷ vs) = (v.width ≤ 64) × AreNarrow vs
+AreNarrow (v ∷ vs) = (v.width ≤ widest) × AreNarrow vs
 
 all_narrow : (vs : List Var) → AreNarrow vs → are_narrow vs ≡ true
 all_narrow [] h = refl
-all_narrow (v ∷ vs) h = and_from (nat_le v.width 64) (are_narrow vs) (le-leb v.width 64 h.0) (all_narrow vs h.1)
+all_narrow (v ∷ vs) h = and_from (nat_le v.width widest) (are_narrow vs) (le-leb v.width widest h.0) (all_narrow vs h.1)
 
 each_narrow : (vs : List Var) → are_narrow vs ≡ true → AreNarrow vs
 each_narrow [] e = tt
-each_narrow (v ∷ vs) e = let parts = and_parts (nat_le v.width 64) (are_narrow vs) e in (leb-true v.width 64 parts.0, each_narrow vs parts.1)
+each_narrow (v ∷ vs) e = let parts = and_parts (nat_le v.width widest) (are_narrow vs) e in (leb-true v.width widest parts.0, each_narrow vs parts.1)
 
-narrow_more : (vs : List Var) (v : Var) → AreNarrow vs → v.width ≤ 64 → AreNarrow (vs ++ v ∷ [])
+narrow_more : (vs : List Var) (v : Var) → AreNarrow vs → v.width ≤ widest → AreNarrow (vs ++ v ∷ [])
 narrow_more [] v h k = (k, tt)
 narrow_more (u ∷ vs) v h k = (h.0, narrow_more vs v h.1 k)
 
-narrow_width : (vs : List Var) → AreNarrow vs → (x : List ℕ) → var_width vs x ≤ 64
+narrow_width : (vs : List Var) → AreNarrow vs → (x : List ℕ) → var_width vs x ≤ widest
 narrow_width [] h x = omega arith
 narrow_width (v ∷ vs) h x = at (bytes_eq v.name x) h.0 (narrow_width vs h.1 x)
   where
-    at : (b : Bool) → v.width ≤ 64 → var_width vs x ≤ 64 → (if b then v.width else var_width vs x) ≤ 64
+    at : (b : Bool) → v.width ≤ widest → var_width vs x ≤ widest → (if b then v.width else var_width vs x) ≤ widest
     at true a c = a
     at false a c = c
 
 -- a width that is found
-among : (vs : List Var) → AreNarrow vs → (x : List ℕ) (w : ℕ) → width_among vs x ≡ Some w → w ≤ 64
+among : (vs : List Var) → AreNarrow vs → (x : List ℕ) (w : ℕ) → width_among vs x ≡ Some w → w ≤ widest
 among [] h x w e = absurd (none_some w e)
 among (v ∷ vs) h x w e = at (bytes_eq v.name x) e h.0 (among vs h.1 x w)
   where
     same : (m n : ℕ) → Some m ≡ Some n → m ≡ n
     same m n i = cc
 
-    at : (b : Bool) → (if b then Some v.width else width_among vs x) ≡ Some w → v.width ≤ 64 → (width_among vs x ≡ Some w → w ≤ 64) → w ≤ 64
-    at true i a c = subst (λ n. n ≤ 64) (same v.width w i) a
+    at : (b : Bool) → (if b then Some v.width else width_among vs x) ≡ Some w → v.width ≤ widest → (width_among vs x ≡ Some w → w ≤ widest) → w ≤ widest
+    at true i a c = subst (λ n. n ≤ widest) (same v.width w i) a
     at false i a c = c i
 
--- a variable that is found among narrow ones has at most 64 bits
-pub narrow_among : (vs : List Var) → are_narrow vs ≡ true → (x : List ℕ) (w : ℕ) → width_among vs x ≡ Some w → w ≤ 64
+-- a variable that is found among narrow ones has at most widest bits
+pub narrow_among : (vs : List Var) → are_narrow vs ≡ true → (x : List ℕ) (w : ℕ) → width_among vs x ≡ Some w → w ≤ widest
 narrow_among vs e = among vs (each_narrow vs e)
 
 -- MEMORIES
@@ -73,20 +74,20 @@ none_over p before (x ∷ xs) e =
     let parts = none_given (breaks_rule Z7 p before x) (line_of x) (broken_line Z7 p (before ++ x ∷ []) xs) e in
     ap (λ b. b || list_any breaks_z7 xs) parts.0 ∙ none_over p (before ++ x ∷ []) xs parts.1
 
-wide_enough : (m : Mem) → breaks_z7 (Memory m) ≡ false → m.width.value ≤ 64
+wide_enough : (m : Mem) → breaks_z7 (Memory m) ≡ false → m.width.value ≤ widest
 wide_enough m e = (width_is m.width.value (ap not (and_parts (is_width m.width.value) (is_depth m.depth.value) (not-false _ (or_parts _ _ e).0)).0)).1
 
-mem_narrow : (ms : List Mem) (m : List ℕ) → list_any breaks_z7 (map Memory ms) ≡ false → mem_width ms m ≤ 64
+mem_narrow : (ms : List Mem) (m : List ℕ) → list_any breaks_z7 (map Memory ms) ≡ false → mem_width ms m ≤ widest
 mem_narrow [] m e = omega arith
 mem_narrow (x ∷ xs) m e =
     let parts = or_parts (breaks_z7 (Memory x)) (list_any breaks_z7 (map Memory xs)) e in
     at (bytes_eq x.name.name m) (wide_enough x parts.0) (mem_narrow xs m parts.1)
   where
-    at : (b : Bool) → x.width.value ≤ 64 → mem_width xs m ≤ 64 → (if b then x.width.value else mem_width xs m) ≤ 64
+    at : (b : Bool) → x.width.value ≤ widest → mem_width xs m ≤ widest → (if b then x.width.value else mem_width xs m) ≤ widest
     at true a c = a
     at false a c = c
 
-mems_narrow : (p : Pipe) → broken_line Z7 p [] (places p) ≡ None → (m : List ℕ) → mem_width p.mems m ≤ 64
+mems_narrow : (p : Pipe) → broken_line Z7 p [] (places p) ≡ None → (m : List ℕ) → mem_width p.mems m ≤ widest
 mems_narrow p e m =
     let ps = map Parameter p.params in
     let ms = map Memory p.mems in
@@ -111,7 +112,7 @@ same p vs before y none e k h = record { vars = vs; is = e; known = known_same p
 
 more : (p : Pipe) (vs : List Var) (before : List Place) (y : Place) (x : List ℕ) (w : ℕ) (advised : Bool)
     → variable_at y ≡ Some x → name_at y ≡ Some x → after_place p.mems vs y ≡ with_variable vs x w advised
-    → breaks_n2 p before y ≡ false → w ≤ 64 → AreKnown p vs before → AreNarrow vs → Next p vs before y
+    → breaks_n2 p before y ≡ false → w ≤ widest → AreKnown p vs before → AreNarrow vs → Next p vs before y
 more p vs before y x w advised variable name after once l k h =
     let known = known_more p vs before y x w advised variable name after once k in
     record {
@@ -138,7 +139,7 @@ knows p vs before y there k x e =
 
 bound : (p : Pipe) (vs : List Var) (before : List Place) (s : Span) (x : Ident) (e : Expr) (bs : List Branch) (ys : List Place)
     → places p ≡ before ++ Statement (Bind s x e) bs ∷ ys → KeepsWidths p before (Statement (Bind s x e) bs ∷ ys)
-    → AreThere p before → AreKnown p vs before → AreNarrow vs → width_of vs e ≤ 64
+    → AreThere p before → AreKnown p vs before → AreNarrow vs → width_of vs e ≤ widest
 bound p vs before s x e bs ys split k there known h =
     let y = Statement (Bind s x e) bs in
     expr_narrow vs (variables p) (is_too_early p before y) (knows p vs before y there known)
@@ -146,7 +147,7 @@ bound p vs before s x e bs ys split k there known h =
     (here N3 p before y ys k.n3) (or_parts _ _ (here W2 p before y ys k.w2)).1 (here Z7 p before y ys k.z7)
 
 one_place : (p : Pipe) (before : List Place) (y : Place) (ys : List Place) (vs : List Var)
-    → places p ≡ before ++ y ∷ ys → KeepsWidths p before (y ∷ ys) → ((m : List ℕ) → mem_width p.mems m ≤ 64)
+    → places p ≡ before ++ y ∷ ys → KeepsWidths p before (y ∷ ys) → ((m : List ℕ) → mem_width p.mems m ≤ widest)
     → AreThere p before → AreKnown p vs before → AreNarrow vs → Next p vs before y
 one_place p before (Parameter a) ys vs split k ms there known h =
     more p vs before (Parameter a) a.name.name a.width.value false refl refl refl (here N2 p before (Parameter a) ys k.n2)
@@ -184,7 +185,7 @@ still_there : (p : Pipe) (before : List Place) (y : Place) → AreThere p before
 still_there p before y h x e = list_any-append (defines_use (OfVariable x)) before (y ∷ []) ∙ or_left _ _ (h x e)
 
 after_params : (p : Pipe) (xs before : List Place) (vs : List Var)
-    → places p ≡ before ++ xs → KeepsWidths p before xs → ((m : List ℕ) → mem_width p.mems m ≤ 64) → AreThere p before
+    → places p ≡ before ++ xs → KeepsWidths p before xs → ((m : List ℕ) → mem_width p.mems m ≤ widest) → AreThere p before
     → AreKnown p vs before → AreNarrow vs → AreNarrow (fold (after_place p.mems) vs xs)
 after_params p [] before vs split k ms there known h = h
 after_params p (y ∷ ys) before vs split k ms there known h =
@@ -219,7 +220,7 @@ last_param p before h x e = always (list_any (defines_use (OfVariable x)) before
 
 from_params : (p : Pipe) (ps : List Param) (rest before : List Place) (vs : List Var)
     → places p ≡ before ++ (map Parameter ps ++ rest) → KeepsWidths p before (map Parameter ps ++ rest)
-    → ((m : List ℕ) → mem_width p.mems m ≤ 64) → WillBe p before ps → AreKnown p vs before → AreNarrow vs
+    → ((m : List ℕ) → mem_width p.mems m ≤ widest) → WillBe p before ps → AreKnown p vs before → AreNarrow vs
     → AreNarrow (fold (after_place p.mems) vs (map Parameter ps ++ rest))
 from_params p [] rest before vs split k ms there known h = after_params p rest before vs split k ms (last_param p before there) known h
 from_params p (a ∷ ps) rest before vs split k ms there known h =
@@ -232,7 +233,7 @@ from_params p (a ∷ ps) rest before vs split k ms there known h =
     (from_params p ps rest (before ++ y ∷ []) n.vars (split ∙ sym (append_assoc before (y ∷ []) ys))
     (after p before y ys k) ms (next_param p before a ps there) n.known n.narrow)
 
--- a pipe that keeps the rules that widths rest on has variables of at most 64 bits
+-- a pipe that keeps the rules that widths rest on has variables of at most widest bits
 pub variables_narrow : (p : Pipe) → KeepsWidths p [] (places p) → are_narrow (variables p) ≡ true
 variables_narrow p k =
     let ps = map Parameter p.params in

@@ -12,7 +12,7 @@ use pdl_kit::Name;
 use pdl_rules_widths::Variables;
 use pdl_syntax_tree::Pipe;
 
-/// A pipe that keeps the limits and the rules on names and widths, with the width of each of its variables, 1 to 64 bits.
+/// A pipe that keeps the limits and the rules on names and widths, with the width of each of its variables, 1 to `WIDEST` bits.
 #[derive(Drop)]
 pub struct TypedPipe {
     pipe: Pipe,
@@ -40,7 +40,7 @@ impl TypedPipe {
         &self.pipe
     }
 
-    /// The width of a variable in bits, 1 to 64: of a parameter that of its type, and else that of the expression or the memory that it is bound to; none where the text defines no variable of that name.
+    /// The width of a variable in bits, 1 to `WIDEST`: of a parameter that of its type, and else that of the expression or the memory that it is bound to; none where the text defines no variable of that name.
     pub fn width(&self, name: &Name) -> Option<u8>
         ensures { result ≡ width_among (spec_variables (pipe_view self.now.pipe)) name.now }
     {

@@ -21,6 +21,7 @@ use Rattle.pdl_verilog.proofs.Terms.{add_cell, cell_decl, CompletesTerm, Continu
 use Rattle.pdl_verilog.proofs.BracketTerms.{slice_term, cat_term, rep_term, read_term}
 use Rattle.pdl_verilog.proofs.Cells.{cell_head}
 use Rattle.pdl_verilog.proofs.Parts.{MayDrive, MayCompute, at_cells}
+use Rattle.pdl_word.specs.Words.{widest}
 
 -- the name of an array without `a_`
 abbrev pub memory_name : List Array → ℕ → List ℕ
@@ -43,7 +44,7 @@ IsNetText inputs a = IsOperandText (net inputs a)
 
 -- a cell that can be written
 abbrev pub IsCellText : List (List ℕ) → List Array → Cell → Type 0
-IsCellText inputs arrays (made.Const w v) = (1 ≤ w) × (w ≤ 64) × (v < 2 ^ w)
+IsCellText inputs arrays (made.Const w v) = (1 ≤ w) × (w ≤ widest) × (v < 2 ^ w)
 IsCellText inputs arrays (made.Not a) = IsNetText inputs a
 IsCellText inputs arrays (made.Bin op a b) = IsNetText inputs a × IsNetText inputs b
 IsCellText inputs arrays (made.Mux x a b) = IsNetText inputs x × IsNetText inputs a × IsNetText inputs b

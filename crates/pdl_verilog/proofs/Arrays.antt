@@ -17,6 +17,7 @@ use Rattle.pdl_verilog.proofs.WordTokens.{token, word_token, space_first}
 use Rattle.pdl_verilog.proofs.Names.{decimal_word, name_word, after_prefix}
 use Rattle.pdl_verilog.proofs.RuleSteps.{CompletesFile, one_rule}
 use Rattle.pdl_verilog.proofs.Declarations.{range_row, range_split, range_tokens, reg_start, number_fits, high_back}
+use Rattle.pdl_word.specs.Words.{widest}
 
 -- an array that can be written
 pub record IsArrayText (a : Array) : Type 0 where
@@ -68,7 +69,7 @@ module _ (line : ℕ) (a : Array) (rest : List ℕ) (before f : File) (h : IsArr
       ∷ token (codes "]") line ∷ token (codes ";") line ∷ []
 
   range_lexed : tokens_from 0 line text ≡ token (codes "reg") line ∷ range_row line a.width [] ++ tokens_from 0 line middle
-  range_lexed = let most : a.width ≤ 64 = h.width.high in
+  range_lexed = let most : a.width ≤ widest = h.width.high in
       reg_start (range a.width ++ middle) line ∙ ap (λ z. token (codes "reg") line ∷ z) (range_tokens a.width line middle most)
 
   name_lexed : tokens_from 0 line middle ≡ token name line ∷ row ++ tokens_from 0 (line + 1) rest
@@ -84,7 +85,7 @@ module _ (line : ℕ) (a : Array) (rest : List ℕ) (before f : File) (h : IsArr
       ∙ ap (λ z. t0 ∷ token (codes "[") line ∷ token (codes "0") line ∷ token (codes ":") line ∷ token depth line ∷ z) (square_last rest line))))
 
   small_high : a.width - 1 < 1000000
-  small_high = let most : a.width ≤ 64 = h.width.high in omega arith
+  small_high = let most : a.width ≤ widest = h.width.high in omega arith
 
   small_last : a.depth - 1 < 1000000
   small_last = let most : a.depth ≤ 131072 = h.high in omega arith

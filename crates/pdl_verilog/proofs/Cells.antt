@@ -14,6 +14,7 @@ use Rattle.pdl_verilog.proofs.Names.{cell_text}
 use Rattle.pdl_verilog.proofs.RuleSteps.{CompletesFile, one_rule}
 use Rattle.pdl_verilog.proofs.Declarations.{range_row, range_tokens, number_fits, high_back}
 use Rattle.pdl_verilog.proofs.Terms.{IsHeaded, CompletesTerm}
+use Rattle.pdl_word.specs.Words.{widest}
 
 wire_first : (x : List ℕ) (line : ℕ) → tokens_from 0 line (codes "wire " ++ x) ≡ token (codes "wire") line ∷ tokens_from 0 line x
 unfolding piece_at
@@ -41,7 +42,7 @@ cell_head p line k w x before f c l wide later d file writes =
     let last = codes " = " ++ x in
     let middle = codes ";\nassign " ++ (name ++ last) in
     let text = codes "wire " ++ (range w ++ (codes " " ++ (name ++ middle))) in
-    let most : w ≤ 64 = wide.high in
+    let most : w ≤ widest = wide.high in
     let small : w - 1 < 1000000 = omega arith in
     let end : Row = token name line ∷ token (codes ";") line ∷ token (codes "assign") (line + 1) ∷ token name (line + 1) ∷ token (codes "=") (line + 1) ∷ [] in
     let row : Row = range_row line w end in

@@ -17,6 +17,7 @@ use Rattle.pdl_verilog.proofs.Numbers.{number_back, decimals_are}
 use Rattle.pdl_verilog.proofs.WordTokens.{token, word_token, space_first, line_end}
 use Rattle.pdl_verilog.proofs.Names.{decimal_word, reg_text}
 use Rattle.pdl_verilog.proofs.RuleSteps.{CompletesFile, one_rule}
+use Rattle.pdl_word.specs.Words.{widest}
 
 -- ---- ranges
 
@@ -39,8 +40,8 @@ range_start x line = refl
 pub range_split : (w : ℕ) (x : List ℕ) → range w ++ x ≡ codes "[" ++ (decimal (w - 1) ++ (codes ":0]" ++ x))
 range_split w x = simp append_assoc
 
--- a range of at most 64 bits gives its tokens before those of what stands after it
-pub range_tokens : (w line : ℕ) (x : List ℕ) → w ≤ 64 → tokens_from 0 line (range w ++ x) ≡ range_row line w (tokens_from 0 line x)
+-- a range of at most widest bits gives its tokens before those of what stands after it
+pub range_tokens : (w line : ℕ) (x : List ℕ) → w ≤ widest → tokens_from 0 line (range w ++ x) ≡ range_row line w (tokens_from 0 line x)
 range_tokens w line x h =
     let word = word_token (decimal (w - 1)) (codes ":0]" ++ x) line (decimal_word (w - 1) (omega arith)) refl in
     ap (tokens_from 0 line) (range_split w x)
@@ -94,7 +95,7 @@ reg_line p line r x rest before f c l w k d same writes =
     let name = codes "r" ++ decimal r in
     let middle = codes " r" ++ (decimal r ++ (codes ";\n" ++ rest)) in
     let split : reg r x ++ rest ≡ codes "reg " ++ (range x.width ++ middle) = simp append_assoc in
-    let most : x.width ≤ 64 = w.high in
+    let most : x.width ≤ widest = w.high in
     let row = range_row line x.width [] in
     let first : tokens_from 0 line (reg r x ++ rest) ≡ token (codes "reg") line ∷ row ++ tokens_from 0 line middle =
     ap (tokens_from 0 line) split
@@ -122,7 +123,7 @@ reg_decls line r (x ∷ xs) = reg_decl line r x ∷ reg_decls (line + 1) (suc r)
 abbrev pub add_regs : File → List RegDecl → File
 add_regs f gs = record f { regs = f.regs ++ gs }
 
--- registers of 1 to 64 bits
+-- registers of 1 to widest bits
 abbrev pub HaveWidths : List Reg → Type 0
 HaveWidths [] = Unit {0}
 HaveWidths (x ∷ xs) = IsWidth x.width × HaveWidths xs

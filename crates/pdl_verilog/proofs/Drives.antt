@@ -17,6 +17,7 @@ use Rattle.pdl_verilog.proofs.Numbers.{constant_back, decimals_are}
 use Rattle.pdl_verilog.proofs.WordTokens.{IsWordText, token, word_token, space_first, line_end}
 use Rattle.pdl_verilog.proofs.Names.{IsOperandText, constant_word, reg_text}
 use Rattle.pdl_verilog.proofs.RuleSteps.{CompletesFile, one_rule}
+use Rattle.pdl_word.specs.Words.{widest}
 
 -- ---- outputs
 
@@ -95,7 +96,7 @@ module _ (line : ℕ) (rest : List ℕ) (before f : File) where
 
   -- `always @(posedge clk) r_id <= rst ? const : id ;`, at a part where it may stand
   pub block_line : (p : Part) (r w v : ℕ) (a : List ℕ) → chosen p (codes "always") ≡ Some rule.BlockHead → r < 2 ^ 64
-      → 1 ≤ w → w ≤ 64 → v < 2 ^ w → IsOperandText a
+      → 1 ≤ w → w ≤ widest → v < 2 ^ w → IsOperandText a
       → CompletesFile part.Blocks (line + 1) rest (add_block before (reg_block r w v a)) f
       → CompletesFile p line
       (always

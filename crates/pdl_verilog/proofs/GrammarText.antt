@@ -38,6 +38,7 @@ use Rattle.pdl_verilog.proofs.Ports.{all_from_each, IsHeadText, IsMemName, pipe_
 use Rattle.pdl_net.proofs.PipeMems.{told_name}
 use Rattle.pdl_word.specs.Each.{Each}
 use Rattle.pdl_word.proofs.Each.{each_append, each_front, each_back, each_unmapped, each_weaker, each_from_all, each_mapped}
+use Rattle.pdl_word.specs.Words.{widest}
 
 -- ---- lists
 
@@ -146,14 +147,14 @@ module _ (n : Netlist) (h : IsWellFormed n) (names : HasNames n) (few_regs : len
   fit_text k l (made.Bin op a b) f = (net_text k l a f.0, net_text k l b f.1)
   fit_text k l (made.Mux x a b) f = (net_text k l x f.0, net_text k l a f.1, net_text k l b f.2)
   fit_text k l (made.Slice a high low) f =
-      let w : (signal c a).width ≤ 64 = (net_wide k l a f.0).high in
+      let w : (signal c a).width ≤ widest = (net_wide k l a f.0).high in
       let i : low ≤ high = f.1 in
       let j : high < (signal c a).width = f.2 in
       (net_text k l a f.0, omega arith, omega arith)
   fit_text k l (made.Cat a b) f = (net_text k l a f.0, net_text k l b f.1)
   fit_text k l (made.Rep m a) f =
       let w = count_fits m (signal c a).width (net_wide k l a f.0).low in
-      let i : m * (signal c a).width ≤ 64 = f.2 in
+      let i : m * (signal c a).width ≤ widest = f.2 in
       (omega arith, net_text k l a f.0)
   fit_text k l (made.Read m a) f = (all_from_each IsArrayNamed n.arrays arrays_named m _ f.0, net_text k l a f.1)
 

@@ -20,6 +20,7 @@ use Rattle.pdl_vlog.specs.Layout.{range, direction, port}
 use Rattle.pdl_verilog.proofs.WordTokens.{IsWordText, token, word_token, space_first}
 use Rattle.pdl_verilog.proofs.RuleSteps.{CompletesFile, one_rule}
 use Rattle.pdl_verilog.proofs.Declarations.{range_row, range_tokens, number_fits, high_back}
+use Rattle.pdl_word.specs.Words.{widest}
 
 -- a port that can be written
 pub record IsPortText (p : Port) : Type 0 where
@@ -65,7 +66,7 @@ comma_chosen = refl
 
 -- the range and the name of a port
 name_tokens : (line w : ℕ) (name x : List ℕ)
-    → w ≤ 64 → IsWordText name → prefix_len is_word x ≡ 0
+    → w ≤ widest → IsWordText name → prefix_len is_word x ≡ 0
     → tokens_from 0 line (range w ++ (codes " " ++ (name ++ x))) ≡ range_row line w (token name line ∷ tokens_from 0 line x)
 name_tokens line w name x h o e =
     range_tokens w line (codes " " ++ (name ++ x)) h
@@ -80,7 +81,7 @@ abbrev rule_of : Dir → VerilogRule
 rule_of In = rule.InputPort
 rule_of (Out n) = rule.OutputPort
 
-module _ (line : ℕ) (name x : List ℕ) (w : ℕ) (before f : File) (small : w ≤ 64) (o : IsWordText name)
+module _ (line : ℕ) (name x : List ℕ) (w : ℕ) (before f : File) (small : w ≤ widest) (o : IsWordText name)
     (named : is_port name ≡ true) (apart : prefix_len is_word x ≡ 0) where
   abbrev after_word : List ℕ
   after_word = range w ++ (codes " " ++ (name ++ x))
@@ -173,7 +174,7 @@ port_texts line (p ∷ ps) rest before f h k =
     let same : add_ports before (port_decls line (p ∷ ps)) ≡ add_ports one (port_decls line ps) =
     ap (λ gs. record before { ports = gs }) (sym (append_assoc before.ports (port_decl line p ∷ []) (port_decls line ps))) in
     let later = port_texts line ps rest one f h.1 (subst (λ z. CompletesFile part.Regs (line + 1) rest z f) same k) in
-    let most : p.width ≤ 64 = h.0.width.high in
+    let most : p.width ≤ widest = h.0.width.high in
     let text = port_text line p.name x p.width before f most h.0.word h.0.named (ports_start ps rest) p.dir later in
     let split : flat_map port (p ∷ ps) ++ closing rest ≡ direction p.dir ++ (range p.width ++ (codes " " ++ (p.name ++ x))) = simp append_assoc in
     subst (λ z. CompletesFile part.Ports line z before f) (sym split) text

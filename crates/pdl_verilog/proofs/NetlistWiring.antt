@@ -33,10 +33,11 @@ use Rattle.pdl_verilog.specs.Declared.{Lines, array_name, port_decl, term, decla
 use Rattle.pdl_verilog.proofs.Places.{place_at}
 use Rattle.pdl_verilog.proofs.Nets.{port_names, reg_found, net_named, array_found}
 use Rattle.pdl_verilog.proofs.PassResults.{one_found, two_found, three_found, small_same, cells_found, length_cells, IsNet, IsOutput, outputs_found, IsRegister, regs_found, IsArray, blocks_found}
+use Rattle.pdl_word.specs.Words.{widest}
 
 -- ---- widths of nets
 
--- each net of a well formed circuit has 1 to 64 bits
+-- each net of a well formed circuit has 1 to widest bits
 net_wide : (c : Circuit) → IsWell c → (x : Net) → IsThere c x → IsWidth (signal c x).width
 net_wide c w (Input i) t = subst IsWidth (sym (width_of_input c i)) (input_well c w i (there_input c i t))
 net_wide c w (RegNet r) t =
@@ -49,7 +50,7 @@ there_last : (c : Circuit) (x : Net) → IsThere c x → IsThereAt c (length c.c
 unfolding IsThere
 there_last c x t = t
 
-few_times : (k w : ℕ) → 1 ≤ w → k * w ≤ 64 → k ≤ 64
+few_times : (k w : ℕ) → 1 ≤ w → k * w ≤ widest → k ≤ widest
 few_times k w l h = omega (arith, mul-le-mul_left k l)
 
 module _ (lines : Lines) (n : Netlist) (h : IsWellFormed n) (few : IsCounted n) where
@@ -75,8 +76,8 @@ module _ (lines : Lines) (n : Netlist) (h : IsWellFormed n) (few : IsCounted n) 
       (net_named lines n h few k l x t.0) (net_named lines n h few k l a t.1) (net_named lines n h few k l b t.2)
   cell_read k l (made.Slice a high low) t =
       let w = net_wide c h.well a (there_within c k a l t.0) in
-      let p : high ≤ 64 = omega (arith, w.high, t.2) in
-      let q : low ≤ 64 = omega (arith, p, t.1) in
+      let p : high ≤ widest = omega (arith, w.high, t.2) in
+      let q : low ≤ widest = omega (arith, p, t.1) in
       one_found (λ z. made.Slice z (small high) (small low)) (net_of f k (net inputs a)) a (net_named lines n h few k l a t.0)
       ∙ (ap (λ z. Some (made.Slice a z (small low))) (small_same high p) ∙ ap (λ z. Some (made.Slice a high z)) (small_same low q))
   cell_read k l (made.Cat a b) t =

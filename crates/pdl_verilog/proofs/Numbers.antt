@@ -15,6 +15,7 @@ use Rattle.pdl_vlog.specs.Layout.{constant, operator}
 use Rattle.pdl_word.specs.Digits.{are_digits, hex_digit, hex}
 use Rattle.pdl_word.proofs.Lists.{all_weaker}
 use Rattle.std.proofs.Math.Seq.{take-append_seam}
+use Rattle.pdl_word.specs.Words.{widest}
 
 -- ---- bytes
 
@@ -91,13 +92,13 @@ hex_digit_word d h = elim (cases_lt d 10) [
 
 -- ---- constants
 
-hex_back : (w v : ℕ) → 1 ≤ w → w ≤ 64 → v < 2 ^ w → hex_part (codes "'h" ++ hex ((w + 3) / 4) v) ≡ Some v
+hex_back : (w v : ℕ) → 1 ≤ w → w ≤ widest → v < 2 ^ w → hex_part (codes "'h" ++ hex ((w + 3) / 4) v) ≡ Some v
 hex_back w v low high h =
     ap (λ b. cond b (Some (digits_value 16 (hex ((w + 3) / 4) v))) None) (are_hex_digits w v low high)
     ∙ ap Some (hex_value w v h)
 
--- a constant that fits in its 1 to 64 bits reads as what it was written from
-pub constant_back : (w v : ℕ) → 1 ≤ w → w ≤ 64 → v < 2 ^ w → constant_of (constant w v) ≡ Some (record { width = w; value = v })
+-- a constant that fits in its 1 to widest bits reads as what it was written from
+pub constant_back : (w v : ℕ) → 1 ≤ w → w ≤ widest → v < 2 ^ w → constant_of (constant w v) ≡ Some (record { width = w; value = v })
 unfolding constant_of
 constant_back w v low high h =
     let d = decimal w in

@@ -20,6 +20,7 @@ use Rattle.pdl_vread_nets.specs.declared.wiring.ArrayWrite.{ArrayWrite}
 use Rattle.pdl_vread_nets.specs.Wired.{small, with_one, with_two, with_three, net_of, output_of, reg_place, array_place, cell_of, wired_array, onto_line, onto_block, cells_from, all_outputs, all_regs, writes_of, blocks_of}
 use Rattle.pdl_verilog.specs.Declared as text
 use Rattle.pdl_verilog.specs.Declared.{Lines, reg_name, cell_name, array_name, term, cell_decls, output_decls, reg_blocks, write_decls, array_blocks, onto_output, output_drives, reg_drives, written_to, onto_writes, block_writes}
+use Rattle.pdl_word.specs.Words.{widest}
 
 -- ---- one declaration
 
@@ -37,8 +38,8 @@ pub three_found : {A B C D : Type 0} (make : A → B → C → D) (o : Option A)
     → o ≡ Some a → p ≡ Some b → q ≡ Some d → with_three make o p q ≡ Some (make a b d)
 three_found make o p q a b d e g i = ap (λ z. with_three make z p q) e ∙ two_found (make a) p q b d g i
 
--- a width of at most 64 bits is not cut
-pub small_same : (w : ℕ) → w ≤ 64 → small w ≡ w
+-- a width of at most widest bits is not cut
+pub small_same : (w : ℕ) → w ≤ widest → small w ≡ w
 small_same w l = let b : w < 255 = omega arith in ap (λ t. cond t w 255) (lt-ltb w 255 b)
 
 line_more : {B : Type 0} (o : Option B) (line : ℕ) (rest : Result (List B) ℕ) (y : B) (ys : List B)
@@ -103,7 +104,7 @@ module _ (f : File) (k : ℕ) (inputs : List (List ℕ)) where
   -- the name of a register stands for it, and that of its next value for that net
   pub record IsRegister (r : ℕ) (x : Reg) : Type 0 where
     pub name : reg_place f (reg_name r) ≡ Some r
-    pub width : x.width ≤ 64
+    pub width : x.width ≤ widest
     pub next : IsNet x.next
 
   -- the declared blocks of registers read as what they give them, where their names stand for registers and nets

@@ -33,11 +33,12 @@ use Rattle.pdl_verilog.proofs.Questions.{right_then, append_right, each_so, Goes
 use Rattle.pdl_verilog.proofs.Table.{bits_back, depth_back, IsSized, IsTable, net_is, word_is, depth_is, well_ports, well_regs, well_arrays, port_wide, reg_wide, all_sized, table}
 use Rattle.pdl_word.specs.Each.{Each}
 use Rattle.pdl_word.proofs.Each.{each_from_get}
+use Rattle.pdl_word.specs.Words.{widest}
 
 -- ---- widths and depths
 
 width_right : (w : ℕ) → IsWidth w → is_width w ≡ true
-width_right w h = and_from (leb 1 w) (leb w 64) (le-leb 1 w h.low) (le-leb w 64 h.high)
+width_right w h = and_from (leb 1 w) (leb w widest) (le-leb 1 w h.low) (le-leb w widest h.high)
 
 -- a range of so many bits is right
 range_right : (w : ℕ) → IsWidth w → is_width (bits (w - 1)) ≡ true

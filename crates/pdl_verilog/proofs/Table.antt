@@ -29,12 +29,13 @@ use Rattle.pdl_verilog.specs.Declared.{Lines, declared, port_decl, reg_decls, ar
 use Rattle.pdl_verilog.proofs.Questions.{each_got, each_so}
 use Rattle.pdl_word.specs.Each.{Each}
 use Rattle.pdl_word.proofs.Each.{each_from_get}
+use Rattle.pdl_word.specs.Words.{widest}
 
 -- the range of a width tells that width
 pub bits_back : (w : ℕ) → IsWidth w → bits (w - 1) ≡ w
 bits_back w h =
     let l : 1 ≤ w = h.low in
-    let m : w ≤ 64 = h.high in
+    let m : w ≤ widest = h.high in
     let e : w - 1 + 1 ≡ w = omega arith in
     cond-true (ltb (w - 1) 254) (w - 1 + 1) 255 (lt-ltb (w - 1) 254 (omega arith)) ∙ e
 
@@ -127,11 +128,11 @@ well_regs c w = each_got (IsWellReg c) c.regs no_reg w.regs
 pub well_arrays : (c : Circuit) → IsWell c → Each (IsWellArray c) c.arrays
 well_arrays c w = each_got (IsWellArray c) c.arrays no_array w.arrays
 
--- ports that fit have 1 to 64 bits
+-- ports that fit have 1 to widest bits
 pub port_wide : (c : Circuit) (ps : List Port) → Each (IsWellPort c) ps → Each (λ p. IsWidth p.width) ps
 port_wide c ps h = each_so (IsWellPort c) (λ p. IsWidth p.width) ps (λ p k. record { low = k.low; high = k.high }) h
 
--- registers that fit have 1 to 64 bits
+-- registers that fit have 1 to widest bits
 pub reg_wide : (c : Circuit) (xs : List Reg) → Each (IsWellReg c) xs → Each (λ x. IsWidth x.width) xs
 reg_wide c xs h = each_so (IsWellReg c) (λ x. IsWidth x.width) xs (λ x k. record { low = k.low; high = k.high }) h
 

@@ -21,6 +21,7 @@ use Rattle.pdl_verilog.proofs.Numbers.{constant_back, operator_back}
 use Rattle.pdl_verilog.proofs.WordTokens.{token, word_token, line_end}
 use Rattle.pdl_verilog.proofs.Names.{IsOperandText, constant_word}
 use Rattle.pdl_verilog.proofs.RuleSteps.{Completes, CompletesFile, one_rule}
+use Rattle.pdl_word.specs.Words.{widest}
 
 -- a file with a cell more
 abbrev pub add_cell : File → CellDecl → File
@@ -64,7 +65,7 @@ module _ (line at high : ℕ) (name rest : List ℕ) (before f : File) where
 
   -- ---- `const`
 
-  const_tokens : (w v : ℕ) → w ≤ 64
+  const_tokens : (w v : ℕ) → w ≤ widest
       → tokens_from 0 line (constant w v ++ (codes ";\n" ++ rest)) ≡ token (constant w v) line ∷ token (codes ";") line ∷ tokens_from 0 (line + 1) rest
   const_tokens w v h =
       word_token (constant w v) (codes ";\n" ++ rest) line (constant_word w v (omega arith)) refl ∙ ap (λ z. token (constant w v) line ∷ z) (line_end rest line)
@@ -74,7 +75,7 @@ module _ (line at high : ℕ) (name rest : List ℕ) (before f : File) where
   const_chosen x h = cond-true _ _ _ h
 
   -- the text of a constant completes a cell, where what follows goes on with the constant
-  pub const_term : (w v : ℕ) → 1 ≤ w → w ≤ 64 → v < 2 ^ w → Continues (t.Const w v)
+  pub const_term : (w v : ℕ) → 1 ≤ w → w ≤ widest → v < 2 ^ w → Continues (t.Const w v)
       → CompletesTerm line (constant w v ++ (codes ";\n" ++ rest)) before at high name f
   const_term w v low most small k d h =
       let back = constant_back w v low most small in

@@ -60,7 +60,7 @@ array_widths n w = λ i a e.
     let v = w.arrays i k.0 in
     (subst (λ x. 1 ≤ x.width) k.1 v.low, subst (λ x. 1 ≤ x.depth) k.1 (power_low v.depth.bits (get_or n.arrays i no_array).depth v.depth.power))
 
--- a cell that fits is a constant of at most 64 bits, or none
+-- a cell that fits is a constant of at most widest bits, or none
 short : (c : Circuit) (There : Net → Type 0) (at : Net → Signal) (g : Cell) → FitsIn c There at g → spec.IsShort g
 short c There at (Const w v) f = f.1
 short c There at (Not a) f = tt
@@ -71,7 +71,7 @@ short c There at (Cat a b) f = tt
 short c There at (Rep k a) f = tt
 short c There at (Read m a) f = tt
 
--- each constant among the cells of a netlist in which all fits has at most 64 bits
+-- each constant among the cells of a netlist in which all fits has at most widest bits
 pub short_cell : (n : Netlist) (xs : List Cell) (k : ℕ) → IsWell (circuit_of n)
     → k < length n.cells → xs ≡ n.cells → spec.IsShort (get_or xs k no_cell)
 short_cell n xs k w h e =

@@ -16,6 +16,7 @@ use Rattle.pdl_net.specs.declared.Netlist.{Netlist}
 use Rattle.pdl_net.specs.Circuit.{circuit_of}
 use Rattle.pdl_net.specs.Meaning.{signal}
 use Rattle.pdl_word.specs.Digits.{hex}
+use Rattle.pdl_word.specs.Words.{widest}
 
 -- ---- names
 
@@ -101,9 +102,9 @@ term inputs arrays (Cat a b) = cat inputs a b
 term inputs arrays (Rep k a) = rep inputs k a
 term inputs arrays (Read m a) = read inputs arrays m a
 
--- a constant has at most 64 bits
+-- a constant has at most widest bits
 abbrev pub IsShort : Cell → Type 0
-IsShort (Const w v) = w ≤ 64
+IsShort (Const w v) = w ≤ widest
 IsShort _ = Unit {0}
 
 -- ---- lines
@@ -224,9 +225,9 @@ HavePortWidths ports = (i : ℕ) (p : Port) → slice_get ports i ≡ Some p →
 abbrev pub HaveRegWidths : List Reg → Type 0
 HaveRegWidths rs = (i : ℕ) (r : Reg) → slice_get rs i ≡ Some r → 1 ≤ r.width
 
--- each register has at most 64 bits
+-- each register has at most widest bits
 abbrev pub HaveShortWidths : List Reg → Type 0
-HaveShortWidths rs = (i : ℕ) (r : Reg) → slice_get rs i ≡ Some r → r.width ≤ 64
+HaveShortWidths rs = (i : ℕ) (r : Reg) → slice_get rs i ≡ Some r → r.width ≤ widest
 
 -- each array has words of at least 1 bit, and at least one word
 abbrev pub HaveArrayWidths : List Array → Type 0

@@ -1,10 +1,12 @@
 // Nets, constants and the right sides of cells.
 ghost use Rattle.std.specs.Prelude.{◌≡◌, ◌++◌, ◌≤◌, OnOk, IfOk};
 ghost use Rattle.pdl_vlog.specs.Layout as spec;
+ghost use Rattle.pdl_word.specs.Words.{widest};
 
 use crate::text::Text;
 use pdl_kit::{Name, NoMemory, Seq};
 use pdl_net::{Array, BinOp, Cell, Dir, Net, Port};
+use pdl_word::Word;
 use std::alloc::Global;
 
 // Adds the name of a port, where it is an input.
@@ -70,8 +72,8 @@ pub fn range(text: &mut Text, width: u8) -> Result<(), NoMemory>
 }
 
 /// A constant.
-pub fn constant(text: &mut Text, width: u8, value: u64) -> Result<(), NoMemory>
-    requires { width ≤ 64 }
+pub fn constant(text: &mut Text, width: u8, value: Word) -> Result<(), NoMemory>
+    requires { width ≤ widest }
     ensures { OnOk result (text.new ≡ text.old ++ spec.constant width value) }
 {
     text.push_decimal(u64::from(width))?;

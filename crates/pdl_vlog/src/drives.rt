@@ -1,6 +1,7 @@
 // What drives outputs, registers and arrays.
 ghost use Rattle.std.specs.Prelude.{◌≡◌, ◌++◌, ◌≤◌, OnOk, flat_map};
 ghost use Rattle.pdl_vlog.specs.Layout as spec;
+ghost use Rattle.pdl_word.specs.Words.{widest};
 
 use crate::cells::{constant, net};
 use crate::text::Text;
@@ -41,7 +42,7 @@ fn always(text: &mut Text) -> Result<(), NoMemory>
 }
 
 fn takes(text: &mut Text, inputs: &[Name], reg: Reg) -> Result<(), NoMemory>
-    requires { reg.width ≤ 64 }
+    requires { reg.width ≤ widest }
     ensures { OnOk result (text.new ≡ text.old ++ spec.takes inputs.now reg) }
 {
     constant(text, reg.width, reg.reset)?;
@@ -51,7 +52,7 @@ fn takes(text: &mut Text, inputs: &[Name], reg: Reg) -> Result<(), NoMemory>
 }
 
 fn block(text: &mut Text, inputs: &[Name], r: usize, reg: Reg) -> Result<(), NoMemory>
-    requires { reg.width ≤ 64 }
+    requires { reg.width ≤ widest }
     ensures { OnOk result (text.new ≡ text.old ++ spec.block inputs.now r reg) }
 {
     always(text)?;

@@ -1,10 +1,10 @@
 // A text that grows.
 ghost use Rattle.std.specs.Prelude.{◌≡◌, ◌++◌, ◌≤◌, [], OnOk, decimal};
-ghost use Rattle.pdl_word.specs.Digits.{hex};
+ghost use Rattle.pdl_word.specs.Digits.{hex, most_hex};
 
 use itoa::Buffer;
 use pdl_kit::NoMemory;
-use pdl_word::hex_digit;
+use pdl_word::{Word, hex_digit};
 use std::alloc::Global;
 use std::marker::Model;
 
@@ -56,8 +56,8 @@ impl Text {
     }
 
     /// Appends the `count` lowest hexadecimal digits of a value, most significant first.
-    pub fn push_hex(&mut self, count: u8, value: u64) -> Result<(), NoMemory>
-        requires { count ≤ 16 }
+    pub fn push_hex(&mut self, count: u8, value: Word) -> Result<(), NoMemory>
+        requires { count ≤ most_hex }
         ensures { OnOk result (self.new ≡ self.old ++ hex count value) }
     {
         for done in 0..count {

@@ -18,10 +18,11 @@ use Rattle.pdl_vread_rules.specs.RuleQuestions.{first_wrong, both}
 use Rattle.pdl_vread_rules.specs.Widths.{bits, widths_of, net_width, is_width, fits, fits_cell, asked_cell}
 use Rattle.pdl_vread.proofs.Depths.{right_both}
 use Rattle.pdl_vread.proofs.NamedNets.{Has, NetsThere, cell_there}
+use Rattle.pdl_word.specs.Words.{widest}
 
--- a width that passes the test of V3 is 1 to 64 bits
-pub is_width_parts : (w : ℕ) → is_width w ≡ true → (1 ≤ w) × (w ≤ 64)
-is_width_parts w h = let p = and_parts (leb 1 w) (leb w 64) h in (leb-true 1 w p.0, leb-true w 64 p.1)
+-- a width that passes the test of V3 is 1 to widest bits
+pub is_width_parts : (w : ℕ) → is_width w ≡ true → (1 ≤ w) × (w ≤ widest)
+is_width_parts w h = let p = and_parts (leb 1 w) (leb w widest) h in (leb-true 1 w p.0, leb-true w widest p.1)
 
 -- a cell fits, and its signal has this width
 record FitsWidth (c : Circuit) (There : Net → Type 0) (at : Net → Signal) (g : Cell) (w : ℕ) : Type 0 where
@@ -33,7 +34,7 @@ module _ (c : Circuit) (f : File) (h : Has c f) (There : Net → Type 0) (at : N
   abbrev declared_width : Net → ℕ
   declared_width x = net_width (widths_of f) x
 
-  cell_fits : (g : Cell) (w : ℕ) → NetsThere c There g → 1 ≤ w → w ≤ 64 → fits_cell (widths_of f) g w ≡ true → FitsWidth c There at g w
+  cell_fits : (g : Cell) (w : ℕ) → NetsThere c There g → 1 ≤ w → w ≤ widest → fits_cell (widths_of f) g w ≡ true → FitsWidth c There at g w
   cell_fits (made.Const own v) w n l m e =
       let p = and_parts (eqb own w) (fits v own) e in
       let q = and_parts (is_width own) (ltb v (2 ^ own)) p.1 in
@@ -71,11 +72,11 @@ module _ (c : Circuit) (f : File) (h : Has c f) (There : Net → Type 0) (at : N
   cell_fits (made.Cat a b) w n l m e =
       let i : declared_width a + declared_width b ≡ w = eqb-true (declared_width a + declared_width b) w e in
       let s : (at a).width + (at b).width ≡ w = ap (λ z. z + (at b).width) (wide a n.0) ∙ (ap (λ z. declared_width a + z) (wide b n.1) ∙ i) in
-      record { fit = (n.0, n.1, subst (λ z. z ≤ 64) (sym s) m); width = s }
+      record { fit = (n.0, n.1, subst (λ z. z ≤ widest) (sym s) m); width = s }
   cell_fits (made.Rep k a) w n l m e =
       let p = and_parts (leb 1 k) (eqb (k * declared_width a) w) e in
       let s : k * (at a).width ≡ w = ap (λ z. k * z) (wide a n) ∙ eqb-true (k * declared_width a) w p.1 in
-      record { fit = (n, leb-true 1 k p.0, subst (λ z. z ≤ 64) (sym s) m); width = s }
+      record { fit = (n, leb-true 1 k p.0, subst (λ z. z ≤ widest) (sym s) m); width = s }
   cell_fits (made.Read a x) w n l m e =
       let depth = get_or (widths_of f).depths a 0 in
       let p = and_parts (eqb (2 ^ declared_width x) depth) (eqb (get_or (widths_of f).words a 0) w) e in

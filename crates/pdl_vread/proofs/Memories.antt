@@ -1,4 +1,4 @@
--- The memories of a netlist that is well formed have different names, and words of 1 to 64 bits, as an image of them wants.
+-- The memories of a netlist that is well formed have different names, and words of 1 to widest bits, as an image of them wants.
 use Rattle.std.proofs.Common.{◌≡◌, ◌≢◌, ℕ, suc, ◌<◌, ◌≤◌, Bool, true, false, cond, List, [], ◌∷◌, ◌++◌, length, map, get_or, append_assoc, flat_map, find, All, AllPairs, codes, bytes_eq, Some, Result, Ok, Err, IfOk, refl, sym, ap, ◌∙◌, subst, arith}
 use Rattle.std.specs.List.{range_with_len}
 use Rattle.std.proofs.lemmas.Option.{slice_get-get_or}
@@ -17,10 +17,11 @@ use Rattle.pdl_vread.specs.Reads.{Judges}
 use Rattle.pdl_vread.proofs.ArrayNames.{get_mapped}
 use Rattle.pdl_vread.proofs.WellFormed.{reads_well, read_well}
 use Rattle.pdl_net.proofs.PipeMems.{told, told_names}
+use Rattle.pdl_word.specs.Words.{widest}
 
--- 1 to 64 bits
+-- 1 to widest bits
 abbrev pub IsWide : ℕ → Type 0
-IsWide w = (1 ≤ w) × (w ≤ 64)
+IsWide w = (1 ≤ w) × (w ≤ widest)
 
 -- two with different names
 abbrev NamesDiffer : {A : Type 0} → (A → List ℕ) → List A → Type 0
@@ -147,7 +148,7 @@ module _ (n : Netlist) (h : IsWellFormed n) where
       ∙ (delayed_front delayed (map (told locked) n.arrays) ∙ ap (λ z. map (λ (m : PortMem). m.name) delayed ++ z) (told_names locked n.arrays)) in
       names_differ (λ (m : MemInfo). m.name) n.mems (subst (AllPairs (λ (a b : List ℕ). a ≢ b)) (sym e) apart)
 
-  -- the words of the netlist's memories have 1 to 64 bits
+  -- the words of the netlist's memories have 1 to widest bits
   pub mems_wide : All (λ (m : MemInfo). IsWide m.width) n.mems
   mems_wide =
       let front = delayed_wide delayed later (subst (All (λ (p : Head). IsWide p.width)) ports_split ports_wide) in
@@ -176,8 +177,8 @@ pub read_low : (bytes : List ℕ) (r : Result Netlist VError) → Judges bytes r
 read_low bytes (Ok n) h = λ k d l. (mems_wide n (reads_well bytes n h) k d l).0
 read_low bytes (Err e) h = tt
 
--- the memories of a netlist that the reader answers have words of at most 64 bits
-pub read_high : (bytes : List ℕ) (r : Result Netlist VError) → Judges bytes r → IfOk r (λ n. All (λ m. m.width ≤ 64) n.mems)
+-- the memories of a netlist that the reader answers have words of at most widest bits
+pub read_high : (bytes : List ℕ) (r : Result Netlist VError) → Judges bytes r → IfOk r (λ n. All (λ m. m.width ≤ widest) n.mems)
 read_high bytes (Ok n) h = λ k d l. (mems_wide n (reads_well bytes n h) k d l).1
 read_high bytes (Err e) h = tt
 

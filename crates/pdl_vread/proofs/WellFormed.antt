@@ -44,6 +44,7 @@ use Rattle.pdl_vread.proofs.Powers.{depth_is}
 use Rattle.pdl_vread.proofs.ArrayNames.{file_named, apart_rests, get_mapped}
 use Rattle.pdl_word.specs.Each.{Each}
 use Rattle.pdl_word.proofs.Each.{each_got}
+use Rattle.pdl_word.specs.Words.{widest}
 
 -- the circuit that is built
 abbrev circuit : File → Wiring → Circuit
@@ -200,9 +201,9 @@ module _ (f : File) (w : Wiring) (k : KeepsRules f w) where
   well_port : (i : ℕ) (d : PortDecl) → i < length f.ports → d ≡ get_or f.ports i no_port_decl → IsWellPort c (port d (driver i (Input 0) w.outputs))
   well_port i d l e = record { low = wd.0; high = wd.1; driven = go d.input refl }
     where
-      wd : (1 ≤ bits d.high) × (bits d.high ≤ 64)
+      wd : (1 ≤ bits d.high) × (bits d.high ≤ widest)
       wd =
-          subst (λ (z : PortDecl). (1 ≤ bits z.high) × (bits z.high ≤ 64)) (sym e)
+          subst (λ (z : PortDecl). (1 ≤ bits z.high) × (bits z.high ≤ widest)) (sym e)
           (is_width_parts _ (map_right asked_port f.ports k.widths.ports i no_port_decl l))
 
       step : (o : OutputDrive) → GoodOutput o → o.port ≡ i → IsThere c o.net × ((signal c o.net).width ≡ bits d.high)
@@ -265,7 +266,7 @@ module _ (f : File) (w : Wiring) (k : KeepsRules f w) where
   good_regs =
       each_right (wired_reg f (length f.cells)) (λ d. d.line) (asked_block (widths_of f)) GoodReg good_reg f.reg_blocks w.regs k.wired.regs k.widths.blocks
 
-  well_given : (x : Reg) (b : RegDrive) → (1 ≤ x.width) × (x.width ≤ 64) → GoodReg b → b.width ≡ x.width → IsWellReg c (given x b)
+  well_given : (x : Reg) (b : RegDrive) → (1 ≤ x.width) × (x.width ≤ widest) → GoodReg b → b.width ≡ x.width → IsWellReg c (given x b)
   well_given x b wd g e = record {
     low = wd.0;
     high = wd.1;
@@ -274,7 +275,7 @@ module _ (f : File) (w : Wiring) (k : KeepsRules f w) where
     width = g.net ∙ e;
   }
 
-  drives_reg : (r wide : ℕ) → (1 ≤ wide) × (wide ≤ 64) → wide ≡ get_or (widths_of f).regs r 0
+  drives_reg : (r wide : ℕ) → (1 ≤ wide) × (wide ≤ widest) → wide ≡ get_or (widths_of f).regs r 0
       → (ds : List RegDrive) (x : Reg) → x.width ≡ wide → Each GoodReg ds
       → IsWellReg c x ⊎ (1 ≤ length (filter (λ b. eqb b.reg r) ds)) → IsWellReg c (driven r x ds)
   drives_reg r wide wd same [] x e h (inl q) = q
@@ -288,7 +289,7 @@ module _ (f : File) (w : Wiring) (k : KeepsRules f w) where
       go more true q s =
           let n : d.reg ≡ r = eqb-true d.reg r q in
           let m : d.width ≡ x.width = h.0.width ∙ (ap (λ z. get_or (widths_of f).regs z 0) n ∙ (sym same ∙ sym e)) in
-          let y : (1 ≤ x.width) × (x.width ≤ 64) = subst (λ z. (1 ≤ z) × (z ≤ 64)) (sym e) wd in
+          let y : (1 ≤ x.width) × (x.width ≤ widest) = subst (λ z. (1 ≤ z) × (z ≤ widest)) (sym e) wd in
           more (given x d) e (inl (well_given x d y h.0 m))
       go more false q k = more x e k
 

@@ -10,6 +10,7 @@ ghost use Rattle.pdl_vread_pipe.specs.ToldParts.{with_mems};
 ghost use Rattle.pdl_vread_text.specs.Text.{IsFile};
 ghost use Rattle.pdl_vread.specs.Reads.{Breaks, FileBreaks, GivesNetlist, GivesRefusal, IsWired, IsNetlistOf, Judges, Reads, Refuses};
 ghost use Rattle.pdl_vread.specs.Reads as spec;
+ghost use Rattle.pdl_word.specs.Words.{widest};
 
 use crate::build::build;
 use pdl_kit::{NoMemory, Rule};
@@ -156,10 +157,10 @@ pub fn read_verilog(alloc: Global, text: &[u8]) -> Result<Netlist, VError>
     ensures judges { Judges text.now result }
     // What is read is well formed, so that it can be run.
     ensures well { IfOk result IsWellFormed }
-    // Its memories have different names and words of 1 to 64 bits, so that they can have an image.
+    // Its memories have different names and words of 1 to `WIDEST` bits, so that they can have an image.
     ensures names { IfOk result (λ n. AllPairs (λ a b. a.name ≢ b.name) n.mems) }
     ensures low { IfOk result (λ n. All (λ m. 1 ≤ m.width) n.mems) }
-    ensures high { IfOk result (λ n. All (λ m. m.width ≤ 64) n.mems) }
+    ensures high { IfOk result (λ n. All (λ m. m.width ≤ widest) n.mems) }
     // A text that reads as a netlist gives it, unless memory runs out.
     ensures only { (n : Netlist') → Reads text.now n → GivesNetlist n result }
     // A text that breaks a rule first is refused by it at its line, unless memory runs out.

@@ -3,6 +3,7 @@ ghost use Rattle.std.specs.Prelude.{◌≡◌};
 
 use pdl_kit::Seq;
 use pdl_net::{Cell, Net, WritePort};
+use pdl_word::Word;
 
 /// An `assign` to an output: the port, counted from 0 among all ports, and the net.
 #[derive(Clone, Copy)]
@@ -16,7 +17,7 @@ pub struct OutputDrive {
 pub struct RegDrive {
     pub reg: usize,
     pub width: u8,
-    pub reset: u64,
+    pub reset: Word,
     pub net: Net,
 }
 

@@ -4,7 +4,6 @@ use Rattle.std.proofs.Math.Nat.{pow-succ'}
 use Rattle.std.proofs.lemmas.Bool.Decides.{Decides-eqb}
 use Rattle.std.proofs.Math.Pow.{pow_mono}
 use Rattle.std.proofs.lemmas.Nat.{one_shl}
-use Rattle.pdl_word.proofs.Masks.{one_shifted}
 use Rattle.pdl_word.proofs.Numbers.{twice_power}
 
 eqb-swap : (a b : ℕ) → eqb a b ≡ eqb b a
@@ -18,7 +17,7 @@ eqb-swap a b = go (eqb a b) (eqb b a) refl refl
 
 -- a depth is compared with 1 moved up by b places in 64 bits as with 2^b, where b is below 64
 pub shifted_out : (b d : ℕ) → b < 64 → eqb (1 * 2 ^ b % 2 ^ 64) d ≡ eqb d (2 ^ b)
-shifted_out b d h = ap (λ x. eqb x d) (one_shifted b h) ∙ eqb-swap (2 ^ b) d
+shifted_out b d h = ap (λ x. eqb x d) (one_shl b 64 h) ∙ eqb-swap (2 ^ b) d
 
 not_equal : (a b : ℕ) → a < b → false ≡ eqb a b
 not_equal a b h = go (eqb a b) refl

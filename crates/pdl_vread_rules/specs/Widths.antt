@@ -22,6 +22,7 @@ use Rattle.pdl_vread_nets.specs.declared.wiring.ArrayWrite.{ArrayWrite}
 use Rattle.pdl_vread_nets.specs.declared.wiring.Wiring.{Wiring}
 use Rattle.pdl_vread_rules.specs.declared.table.Widths.{Widths}
 use Rattle.pdl_vread_rules.specs.RuleQuestions.{Asked, asked, both, first_wrong}
+use Rattle.pdl_word.specs.Words.{widest}
 
 -- ---- declared widths
 
@@ -52,9 +53,9 @@ net_width t (CellNet k) = slice_index t.cells k
 
 -- ---- what is right
 
--- 1 to 64 bits
+-- 1 to widest bits
 abbrev pub is_width : ℕ → Bool
-is_width w = nat_le 1 w && nat_le w 64
+is_width w = nat_le 1 w && nat_le w widest
 
 -- a power of two from 2 to 131,072
 abbrev pub is_depth : ℕ → Bool
@@ -99,19 +100,19 @@ fits_write t w =
 
 -- ---- in the order of the text
 
--- a port has 1 to 64 bits
+-- a port has 1 to widest bits
 abbrev pub asked_port : PortDecl → Asked
 asked_port p = asked p.line (is_width (bits p.high))
 
--- a register has 1 to 64 bits
+-- a register has 1 to widest bits
 abbrev pub asked_reg : RegDecl → Asked
 asked_reg r = asked r.line (is_width (bits r.high))
 
--- an array's words have 1 to 64 bits, and its depth is a power of two from 2 to 131,072
+-- an array's words have 1 to widest bits, and its depth is a power of two from 2 to 131,072
 abbrev pub asked_array : ArrayDecl → Asked
 asked_array a = asked a.line (is_width (bits a.high) && is_depth (a.last + 1))
 
--- a cell has 1 to 64 bits, and its operands and its result have the right widths
+-- a cell has 1 to widest bits, and its operands and its result have the right widths
 abbrev pub asked_cell : Widths → CellDecl → Cell → Asked
 asked_cell t d g = asked d.line (is_width (bits d.high) && fits_cell t g (bits d.high))
 

@@ -11,14 +11,14 @@ use pdl_vread_nets::{ArrayWrite, OutputDrive, PassStop, RegDrive, Wiring};
 use pdl_vread_text::{
     ArrayBlock, ArrayDecl, CellDecl, File, OutputDecl, PortDecl, RegBlock, RegDecl, WriteDecl,
 };
-use pdl_word::mask;
+use pdl_word::{WIDEST, Word, mask};
 use std::alloc::Global;
 
-// Whether a width is 1 to 64 bits.
+// Whether a width is 1 to `WIDEST` bits.
 fn is_width(width: u8) -> bool
     ensures { result ≡ spec.is_width width }
 {
-    1 <= width && width <= 64
+    1 <= width && width <= WIDEST
 }
 
 // Whether the depth of an array with this last address is a power of two from 2 to 131,072.
@@ -36,7 +36,7 @@ fn reaches(width: u8, depth: u64) -> bool
 }
 
 // Whether a value fits a width.
-fn fits(value: u64, width: u8) -> bool
+fn fits(value: Word, width: u8) -> bool
     ensures { result ≡ spec.fits value width }
 {
     is_width(width) && value <= mask(width)

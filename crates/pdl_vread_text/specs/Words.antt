@@ -6,7 +6,7 @@ use Rattle.pdl_net.specs.declared.BinOp.{BinOp}
 use Rattle.pdl_net.specs.declared.BinOp.TheVariants.{Add, Sub, Mul, And, Or, Xor, Eq, Ne, Lt, Shl, Shr}
 use Rattle.pdl_vread_text.specs.declared.numbers.Constant.{Constant}
 use Rattle.pdl_vread_text.specs.Tokens.{is_lower, is_digit}
-use Rattle.pdl_word.specs.Digits.{are_digits}
+use Rattle.pdl_word.specs.Digits.{are_digits, most_hex}
 
 -- ---- numbers
 
@@ -14,17 +14,17 @@ use Rattle.pdl_word.specs.Digits.{are_digits}
 unfoldable pub number_of : List ℕ → Option ℕ
 number_of text = cond (are_digits 10 6 text) (Some (digits_value 10 text)) None
 
--- the value of `'h` and 1 to 16 lower hexadecimal digits
+-- the value of `'h` and 1 to most_hex lower hexadecimal digits
 abbrev pub hex_part : List ℕ → Option ℕ
 hex_part text = cond (starts_with nat_eq text (codes "'h"))
-    (cond (are_digits 16 16 (drop 2 text)) (Some (digits_value 16 (drop 2 text))) None) None
+    (cond (are_digits 16 most_hex (drop 2 text)) (Some (digits_value 16 (drop 2 text))) None) None
 
 -- a constant of a width and a value, if both are there
 abbrev pub with_parts : Option ℕ → Option ℕ → Option Constant
 with_parts (Some w) (Some v) = Some (record { width = w; value = v })
 with_parts _ _ = None
 
--- the constant that a number, `'h` and 1 to 16 lower hexadecimal digits write, with no space inside
+-- the constant that a number, `'h` and 1 to most_hex lower hexadecimal digits write, with no space inside
 unfoldable pub constant_of : List ℕ → Option Constant
 constant_of text = with_parts (number_of (take (prefix_len is_digit text) text)) (hex_part (drop (prefix_len is_digit text) text))
 

@@ -3,6 +3,7 @@ ghost use Rattle.std.specs.Prelude.{◌≡◌};
 
 use pdl_kit::{Name, Seq};
 use pdl_net::BinOp;
+use pdl_word::Word;
 
 /// A port: its line, its name, the highest bit of its range, and whether it is an input.
 #[derive(Drop)]
@@ -33,7 +34,7 @@ pub struct ArrayDecl {
 /// The right side of a cell's `assign`.
 #[derive(Drop)]
 pub enum Term {
-    Const { width: u32, value: u64 },
+    Const { width: u32, value: Word },
     Not(Name),
     Bin(BinOp, Name, Name),
     Mux(Name, Name, Name),
@@ -67,7 +68,7 @@ pub struct RegBlock {
     pub line: u32,
     pub reg: Name,
     pub width: u32,
-    pub reset: u64,
+    pub reset: Word,
     pub source: Name,
 }
 

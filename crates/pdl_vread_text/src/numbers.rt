@@ -7,13 +7,13 @@ ghost use Rattle.pdl_vread_text.specs.Words as spec;
 ghost use Rattle.pdl_vread_text.specs.Tokens.{is_digit as is_digit_byte};
 
 use crate::bytes::is_digit;
-use pdl_word::read_digits;
+use pdl_word::{MOST_HEX, Word, read_digits};
 
 /// A constant: its width in bits as it is written, and its value.
 #[derive(Clone, Copy)]
 pub struct Constant {
     pub width: u32,
-    pub value: u64,
+    pub value: Word,
 }
 
 /// The value of 1 to 6 decimal digits.
@@ -35,20 +35,17 @@ fn digit_length(bytes: &[u8]) -> usize
     bytes.iter().take_while(|c| is_digit(**c)).count()
 }
 
-// The value of `'h` and 1 to 16 lower hexadecimal digits.
-fn hex_part(text: &[u8]) -> Option<u64>
+// The value of `'h` and 1 to `MOST_HEX` lower hexadecimal digits.
+fn hex_part(text: &[u8]) -> Option<Word>
     ensures { result ≡ spec.hex_part text.now }
 {
     if !text.starts_with(b"'h") {
         return None;
     }
-    match read_digits(&text[2..], 16, 16) {
-        Some(value) => Some(value as u64),
-        None => None,
-    }
+    read_digits(&text[2..], 16, MOST_HEX)
 }
 
-/// The constant that a number of 1 to 6 decimal digits, `'h` and 1 to 16 lower hexadecimal digits write.
+/// The constant that a number of 1 to 6 decimal digits, `'h` and 1 to `MOST_HEX` lower hexadecimal digits write.
 #[tactic(auto, unfolding(crate::specs::Words::constant_of))]
 pub fn constant_of(text: &[u8]) -> Option<Constant>
     ensures { result ≡ spec.constant_of text.now }

@@ -3,7 +3,7 @@ use Rattle.std.proofs.Common.{◌≡◌, ℕ, zero, suc, ◌+◌, ◌-◌, ◌*�
 use Rattle.std.proofs.Math.Nat.{mod-lt, suc-mul, mul-le-mul_right}
 use Rattle.std.proofs.lemmas.Bool.{cases_lt}
 use Rattle.std.proofs.lemmas.Nat.{pow_pos, pow-add, shr_le, or_lt, xor_lt, and_le_l}
-use Rattle.pdl_word.specs.Words.{bit, add, sub, mul, complement, and, or, xor, equal, differ, less, lts, shl, shr, slice, cat, zext, sext, mux, rep}
+use Rattle.pdl_word.specs.Words.{widest, bit, add, sub, mul, complement, and, or, xor, equal, differ, less, lts, shl, shr, slice, cat, zext, sext, mux, rep}
 use Rattle.pdl_word.proofs.Shifts.{shl_within, shl_past, shr_within, shr_past}
 use Rattle.pdl_word.proofs.Signs.{wider}
 
@@ -111,10 +111,10 @@ unfolding mux
 mux_below w c a b h k = elim (c == 1) as (λ t. (if t then a else b) < 2 ^ w) [ true ↦ h | false ↦ k ]
 
 -- what `cat` asks of its higher word, from the two widths
-pub fits_above : (u v a : ℕ) → u + v ≤ 64 → a < 2 ^ u → a < 2 ^ (64 - v)
+pub fits_above : (u v a : ℕ) → u + v ≤ widest → a < 2 ^ u → a < 2 ^ (widest - v)
 fits_above u v a h k =
-    let e : u ≤ 64 - v = omega arith in
-    omega (arith, wider u (64 - v) e)
+    let e : u ≤ widest - v = omega arith in
+    omega (arith, wider u (widest - v) e)
 
 -- k copies of a word of u bits are below 2 ^ (k * u)
 pub rep_below : (u k a : ℕ) → a < 2 ^ u → rep u k a < 2 ^ (k * u)
@@ -126,13 +126,13 @@ rep_below u (suc k) a h =
     subst P e (cat_below (k * u) u (rep u k a) a (rep_below u k a h) h)
 
 -- one copy more still fits, where as many as there are to be do
-pub one_more_fits : (u k n x a : ℕ) → x ≡ rep u k a → 1 ≤ k → k < n → n * u ≤ 64 → a < 2 ^ u → x < 2 ^ (64 - u)
+pub one_more_fits : (u k n x a : ℕ) → x ≡ rep u k a → 1 ≤ k → k < n → n * u ≤ widest → a < 2 ^ u → x < 2 ^ (widest - u)
 one_more_fits u k n x a e l m h f =
     let s : k * u + u ≤ n * u = omega (arith, mul-le-mul_right u m, suc-mul k u) in
     rw e (fits_above (k * u) u (rep u k a) (omega (arith, s)) (rep_below u k a f))
 
--- of two or more copies of a word that fit in 64 bits together each is narrower than 64 bits
-pub copy_narrow : (u k n : ℕ) → 1 ≤ u → 1 ≤ k → k < n → n * u ≤ 64 → u < 64
+-- of two or more copies that fit in the widest word together each is narrower than that
+pub copy_narrow : (u k n : ℕ) → 1 ≤ u → 1 ≤ k → k < n → n * u ≤ widest → u < widest
 copy_narrow u k n o l m h =
     let s : 2 * u ≤ n * u = mul-le-mul_right u (omega arith) in
     omega arith

@@ -11,7 +11,8 @@ use Rattle.std.proofs.lemmas.Int.Digits.{digits_value_push, digits_value_more}
 use Rattle.std.proofs.lemmas.List.Folds.{list_all-append, list_all_more}
 use Rattle.std.proofs.lemmas.Str.{digit_value-digit_char}
 use Rattle.std.proofs.lemmas.Str.Parse.{digit_from_value}
-use Rattle.pdl_word.specs.Digits.{is_digit_of, are_digits, hex_digit, hex}
+use Rattle.pdl_word.specs.Digits.{is_digit_of, are_digits, hex_digit, hex, most_hex}
+use Rattle.pdl_word.specs.Words.{widest}
 
 -- ---- decimal digits
 
@@ -91,15 +92,15 @@ value_back (suc n) v l =
     digits_value_push 16 (hex n (v / 16)) (hex_digit (v % 16))
     ∙ omega (arith, value_back n (v / 16) high, last, div-add-mod v 16)
 
--- the digits of a word of 1 to 64 bits
-pub are_hex_digits : (w v : ℕ) → 1 ≤ w → w ≤ 64 → are_digits 16 16 (hex ((w + 3) / 4) v) ≡ true
+-- the digits of a word of 1 to widest bits
+pub are_hex_digits : (w v : ℕ) → 1 ≤ w → w ≤ widest → are_digits 16 most_hex (hex ((w + 3) / 4) v) ≡ true
 are_hex_digits w v low high =
     let n : length (hex ((w + 3) / 4) v) ≡ (w + 3) / 4 = hex_length ((w + 3) / 4) v in
     let parts = div-add-mod (w + 3) 4 in
     let left = mod-lt (w + 3) {m = 4} (omega arith) in
     and_from _ _ (hex_all (is_digit_of 16) sixteen_value ((w + 3) / 4) v)
     (and_from _ _ (le-leb 1 (length (hex ((w + 3) / 4) v)) (omega (arith, n, parts, left, low)))
-    (le-leb (length (hex ((w + 3) / 4) v)) 16 (omega (arith, n, parts, left, high))))
+    (le-leb (length (hex ((w + 3) / 4) v)) most_hex (omega (arith, n, parts, left, high))))
 
 -- a word of w bits is the value of its hexadecimal digits, one for each four bits
 pub hex_value : (w v : ℕ) → v < 2 ^ w → digits_value 16 (hex ((w + 3) / 4) v) ≡ v

@@ -72,3 +72,36 @@ repeated : (rep 1 8 1 ≡ 0xff) × (rep 4 3 0xa ≡ 0xaaa) × (rep 64 1 7 ≡ 7)
     × (rep 1 64 1 ≡ 0xffff_ffff_ffff_ffff)
 unfolding rep
 repeated = (refl, refl, refl, refl, refl)
+
+-- sums and differences of more than 64 bits
+wide_sums : (add 65 0x1_ffff_ffff_ffff_ffff 1 ≡ 0) × (add 65 0xffff_ffff_ffff_ffff 1 ≡ 0x1_0000_0000_0000_0000)
+    × (add 128 0xffff_ffff_ffff_ffff_ffff_ffff_ffff_ffff 2 ≡ 1) × (sub 128 0 1 ≡ 0xffff_ffff_ffff_ffff_ffff_ffff_ffff_ffff)
+    × (sub 127 0 1 ≡ 0x7fff_ffff_ffff_ffff_ffff_ffff_ffff_ffff)
+unfolding add sub
+wide_sums = (refl, refl, refl, refl, refl)
+
+-- products that pass 64 bits, and 128
+wide_products : (mul 128 0xffff_ffff_ffff_ffff 0xffff_ffff_ffff_ffff ≡ 0xffff_ffff_ffff_fffe_0000_0000_0000_0001)
+    × (mul 128 0x1_0000_0000_0000_0000 0x1_0000_0000_0000_0001 ≡ 0x1_0000_0000_0000_0000)
+    × (mul 65 0xffff_ffff_ffff_ffff 2 ≡ 0x1_ffff_ffff_ffff_fffe)
+unfolding mul
+wide_products = (refl, refl, refl)
+
+-- shifts by 64, by 127 and by 128 places
+wide_shifts : (shl 128 3 64 ≡ 0x3_0000_0000_0000_0000) × (shl 128 3 127 ≡ 0x8000_0000_0000_0000_0000_0000_0000_0000) × (shl 128 1 128 ≡ 0)
+    × (shr 128 0x3_0000_0000_0000_0000 64 ≡ 3) × (shr 128 0x8000_0000_0000_0000_0000_0000_0000_0000 127 ≡ 1)
+    × (shr 128 0x8000_0000_0000_0000_0000_0000_0000_0000 128 ≡ 0)
+unfolding shl shr
+wide_shifts = (refl, refl, refl, refl, refl, refl)
+
+wide_order : (lts 128 0x8000_0000_0000_0000_0000_0000_0000_0000 0 ≡ 1) × (lts 128 0 0x8000_0000_0000_0000_0000_0000_0000_0000 ≡ 0)
+    × (lts 128 0x8000_0000_0000_0000 0 ≡ 0)
+unfolding lts
+wide_order = (refl, refl, refl)
+
+wide_parts : (mask 128 ≡ 0xffff_ffff_ffff_ffff_ffff_ffff_ffff_ffff) × (complement 128 1 ≡ 0xffff_ffff_ffff_ffff_ffff_ffff_ffff_fffe)
+    × (slice 127 64 0x123_4567_89ab_cdef_0000_0000_0000_0000 ≡ 0x123_4567_89ab_cdef) × (slice 64 63 0x1_8000_0000_0000_0000 ≡ 3)
+    × (cat 64 1 2 ≡ 0x1_0000_0000_0000_0002) × (rep 64 2 1 ≡ 0x1_0000_0000_0000_0001)
+    × (sext 64 128 0x8000_0000_0000_0000 ≡ 0xffff_ffff_ffff_ffff_8000_0000_0000_0000)
+unfolding mask complement slice cat rep sext
+wide_parts = (refl, refl, refl, refl, refl, refl, refl)

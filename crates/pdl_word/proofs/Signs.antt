@@ -4,15 +4,15 @@ use Rattle.std.proofs.Math.Nat.{mod-eq_of_lt, add-mod_right, pow-le-pow_right, l
 use Rattle.std.proofs.lemmas.Bool.{cases_lt}
 use Rattle.std.proofs.lemmas.Nat.{pow_pos, pow-add}
 use Rattle.pdl_word.proofs.Masks.{one_shifted}
-use Rattle.pdl_word.specs.Words.{add, less, lts, sext, mask, sign_shifted}
+use Rattle.pdl_word.specs.Words.{widest, add, less, lts, sext, mask, sign_shifted}
 
--- words raised by half of the range, as code in 64 bits computes it, are in the order of two's complement
+-- words raised by half of the range, as code computes it in the widest word, are in the order of two's complement
 pub lts_raised : (w a b x y : ℕ)
-    → 1 ≤ w → w ≤ 64 → x ≡ add w a (1 * 2 ^ (w - 1) % 2 ^ 64) → y ≡ add w b (1 * 2 ^ (w - 1) % 2 ^ 64)
+    → 1 ≤ w → w ≤ widest → x ≡ add w a (1 * 2 ^ (w - 1) % 2 ^ widest) → y ≡ add w b (1 * 2 ^ (w - 1) % 2 ^ widest)
     → less x y ≡ lts w a b
 unfolding lts less add
 lts_raised w a b x y l h p q =
-    let e : 1 * 2 ^ (w - 1) % 2 ^ 64 ≡ 2 ^ (w - 1) = one_shifted (w - 1) (omega arith) in
+    let e : 1 * 2 ^ (w - 1) % 2 ^ widest ≡ 2 ^ (w - 1) = one_shifted (w - 1) (omega arith) in
     cc
 
 -- a width's range has two halves

@@ -3,6 +3,14 @@ use Rattle.std.specs.Prelude.{ℕ, zero, suc, ◌+◌, ◌/◌, ◌%◌, Bool, n
 use Rattle.std.specs.Char.{digit_value}
 use Rattle.std.specs.List.{list_all}
 
+-- the most hexadecimal digits that a word is written with
+abbrev pub most_hex : ℕ
+most_hex = 32
+
+-- the most decimal digits that a word is written with
+abbrev pub most_decimal : ℕ
+most_decimal = 39
+
 -- a digit of a base up to 36, where a letter is a lower one
 abbrev pub is_digit_of : ℕ → ℕ → Bool
 is_digit_of base c = nat_lt (digit_value c) base && not (nat_le 65 c && nat_le c 90)

@@ -1,6 +1,10 @@
 -- Words of w bits: whole numbers below 2 ^ w, with arithmetic modulo 2 ^ w.
 use Rattle.std.specs.Prelude.{ℕ, zero, suc, ◌+◌, ◌-◌, ◌*◌, ◌/◌, ◌%◌, ◌^◌, ◌==◌, not, nat_lt, Bool, if◌then◌else◌, bit_and, bit_or, bit_xor}
 
+-- the greatest width of a word, in bits
+abbrev pub widest : ℕ
+widest = 128
+
 -- 1 where the test passes, else 0
 abbrev pub bit : Bool → ℕ
 bit b = if b then 1 else 0

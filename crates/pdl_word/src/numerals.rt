@@ -4,6 +4,8 @@ ghost use Rattle.std.specs.Char.{digit_value};
 ghost use Rattle.std.specs.Str.Parse.{digits_value};
 ghost use Rattle.pdl_word.specs.Digits.{are_digits, hex_digit as hex_digit_of, is_digit_of};
 
+use crate::Word;
+
 // The value of a digit of a base, where a letter is a lower one.
 fn digit_in(byte: u8, base: u128) -> Option<u128>
     requires { base ≤ 36 }
@@ -39,7 +41,7 @@ pub fn read_digits(digits: &[u8], base: u128, most: usize) -> Option<u128>
 }
 
 /// The lower hexadecimal digit of a number below 16.
-pub fn hex_digit(n: u64) -> u8
+pub fn hex_digit(n: Word) -> u8
     requires { n < 16 }
     ensures { result ≡ hex_digit_of n }
 {

@@ -15,8 +15,8 @@ syntax keyword pdlAccess reserve acquire block release
 syntax keyword pdlMode R W
 syntax keyword pdlFunction cat zext sext lts
 syntax match pdlNumber "\<\d\{1,10}\>"
-syntax match pdlNumber "\<\d\{1,10}'d\d\{1,20}\>"
-syntax match pdlNumber "\<\d\{1,10}'h[0-9a-f]\{1,20}\>"
+syntax match pdlNumber "\<\d\{1,10}'d\d\{1,39}\>"
+syntax match pdlNumber "\<\d\{1,10}'h[0-9a-f]\{1,32}\>"
 syntax match pdlStage "---"
 syntax match pdlArrow "<-"
 

@@ -40,9 +40,13 @@ def write_core(name, folder, change):
 
 
 def words_of(image):
-    """The words of an image, by memory and address."""
-    lines = [line.split() for line in image.splitlines()[1:] if line and not line.startswith("//")]
-    return {(memory, int(address)): value for memory, address, value in lines}
+    """The words of an image, by memory and address; a line gives one, or a range of them."""
+    words = {}
+    for line in (it for it in image.splitlines()[1:] if it and not it.startswith("//")):
+        memory, place, value = line.split()
+        first, _, last = place.partition("..")
+        words.update(((memory, address), value) for address in range(int(first), int(last or first) + 1))
+    return words
 
 
 def write_words(name, depth, image, folder):

@@ -4,6 +4,7 @@ ghost use Rattle.pdl_net.specs.HasWidth.{HasWidth};
 ghost use Rattle.pdl_net.specs.Growth.{Extends};
 ghost use Rattle.pdl_lockapi.specs.Laws.{HasNoPorts};
 ghost use Rattle.pdl_tests_of_parts.specs.Driven.{IsLook, IsReserve, IsWrite, IsEnd, AreDrivers, reserve_of, write_of};
+ghost use Rattle.pdl_word.specs.Words.{widest};
 
 use crate::drives::{EndDrive, LookDrive, PortDrive, ReserveDrive, WriteDrive};
 use pdl_build::Builder;
@@ -35,7 +36,7 @@ pub struct Bench {
 /// A register that a test sets.
 fn emit_driver(b: &mut Builder, width: u8) -> Result<usize, NoMemory>
     requires low { 1 ≤ width }
-    requires high { width ≤ 64 }
+    requires high { width ≤ widest }
     ensures driver { IfOk result (λ r. HasWidth b.new (Net.Reg r) width) }
     ensures extends { Extends b.old b.new }
 {
@@ -45,9 +46,9 @@ fn emit_driver(b: &mut Builder, width: u8) -> Result<usize, NoMemory>
 /// An address and a ticket.
 fn emit_look_drive(b: &mut Builder, bits: u8, tickets: u8) -> Result<LookDrive, NoMemory>
     requires bits_low { 1 ≤ bits }
-    requires bits_high { bits ≤ 64 }
+    requires bits_high { bits ≤ widest }
     requires tickets_low { 1 ≤ tickets }
-    requires tickets_high { tickets ≤ 64 }
+    requires tickets_high { tickets ≤ widest }
     ensures look { IfOk result (λ d. IsLook b.new bits tickets d) }
     ensures extends { Extends b.old b.new }
 {
@@ -59,7 +60,7 @@ fn emit_look_drive(b: &mut Builder, bits: u8, tickets: u8) -> Result<LookDrive, 
 /// A reservation.
 fn emit_reserve_drive(b: &mut Builder, bits: u8) -> Result<ReserveDrive, NoMemory>
     requires bits_low { 1 ≤ bits }
-    requires bits_high { bits ≤ 64 }
+    requires bits_high { bits ≤ widest }
     ensures reserve { IfOk result (λ d. IsReserve b.new bits d) }
     ensures extends { Extends b.old b.new }
 {
@@ -71,9 +72,9 @@ fn emit_reserve_drive(b: &mut Builder, bits: u8) -> Result<ReserveDrive, NoMemor
 /// A write.
 fn emit_write_drive(b: &mut Builder, tickets: u8, width: u8) -> Result<WriteDrive, NoMemory>
     requires tickets_low { 1 ≤ tickets }
-    requires tickets_high { tickets ≤ 64 }
+    requires tickets_high { tickets ≤ widest }
     requires width_low { 1 ≤ width }
-    requires width_high { width ≤ 64 }
+    requires width_high { width ≤ widest }
     ensures write { IfOk result (λ d. IsWrite b.new tickets width d) }
     ensures extends { Extends b.old b.new }
 {
@@ -90,7 +91,7 @@ fn emit_write_drive(b: &mut Builder, tickets: u8, width: u8) -> Result<WriteDriv
 /// Two releases and a squash.
 fn emit_end_drive(b: &mut Builder, tickets: u8) -> Result<EndDrive, NoMemory>
     requires tickets_low { 1 ≤ tickets }
-    requires tickets_high { tickets ≤ 64 }
+    requires tickets_high { tickets ≤ widest }
     ensures end { IfOk result (λ d. IsEnd b.new tickets d) }
     ensures extends { Extends b.old b.new }
 {
@@ -109,11 +110,11 @@ fn emit_end_drive(b: &mut Builder, tickets: u8) -> Result<EndDrive, NoMemory>
 /// Two ports of each kind.
 fn emit_port_drive(b: &mut Builder, bits: u8, width: u8, tickets: u8) -> Result<PortDrive, NoMemory>
     requires bits_low { 1 ≤ bits }
-    requires bits_high { bits ≤ 64 }
+    requires bits_high { bits ≤ widest }
     requires width_low { 1 ≤ width }
-    requires width_high { width ≤ 64 }
+    requires width_high { width ≤ widest }
     requires tickets_low { 1 ≤ tickets }
-    requires tickets_high { tickets ≤ 64 }
+    requires tickets_high { tickets ≤ widest }
     ensures ports { IfOk result (λ d. AreDrivers b.new bits width tickets d) }
     ensures extends { Extends b.old b.new }
 {
@@ -222,7 +223,7 @@ fn emit_lock<L: LockModule>(
 ) -> Result<DrivenLock, NoMemory>
     requires suits { L.suits lock.now mem.now }
     requires width_low { 1 ≤ mem.now.width }
-    requires width_high { mem.now.width ≤ 64 }
+    requires width_high { mem.now.width ≤ widest }
 {
     let regs = lock.emit_state(alloc, b, mem)?;
     let tickets = b.width(regs.ticket);
@@ -244,7 +245,7 @@ fn emit_lock<L: LockModule>(
 pub fn emit_bench<L: LockModule>(lock: &L, alloc: Global, mem: &MemInfo) -> Result<Bench, NoMemory>
     requires suits { L.suits lock.now mem.now }
     requires width_low { 1 ≤ mem.now.width }
-    requires width_high { mem.now.width ≤ 64 }
+    requires width_high { mem.now.width ≤ widest }
 {
     let name = mem.name.clone()?;
     let mut b = Builder::new(alloc);

@@ -1,6 +1,7 @@
 // The cells of a netlist, worked out one by one: what a test reads and sets.
 use pdl_kit::NoMemory;
 use pdl_net::{BinOp, Cell, Net, Netlist, Reg, WritePort};
+use pdl_word::Word;
 use std::alloc::Global;
 use std::mem::swap;
 
@@ -21,6 +22,14 @@ pub struct Board {
 }
 
 const ZERO: BoardWord = BoardWord { width: 0, value: 0 };
+
+/// A word of a netlist, in which none has more than 64 bits; one that had would be 0.
+fn narrow(word: Word) -> u64 {
+    match u64::try_from(word) {
+        Ok(number) => number,
+        Err(_) => 0,
+    }
+}
 
 /// The lowest bits of a number.
 pub fn lowest(width: u8, value: u64) -> u64 {
@@ -87,7 +96,7 @@ impl Board {
 
     fn reset(&mut self, regs: &[Reg]) {
         for k in 0..regs.len() {
-            put(self.regs.as_mut_slice(), k, regs[k].reset);
+            put(self.regs.as_mut_slice(), k, narrow(regs[k].reset));
         }
     }
 
@@ -138,7 +147,10 @@ impl Board {
 
     fn cell(&self, net: &Netlist, c: Cell) -> BoardWord {
         match c {
-            Cell::Const { width, value } => BoardWord { width, value },
+            Cell::Const { width, value } => BoardWord {
+                width,
+                value: narrow(value),
+            },
             Cell::Not(a) => {
                 let a = self.word(net, a);
                 BoardWord {

@@ -3,6 +3,7 @@ ghost use Rattle.std.specs.Prelude.{◌≤◌, IfOk};
 ghost use Rattle.pdl_net.specs.HasWidth.{HasWidth};
 ghost use Rattle.pdl_net.specs.Growth.{Extends};
 ghost use Rattle.pdl_tests_of_parts.specs.Beside.{IsStep};
+ghost use Rattle.pdl_word.specs.Words.{widest};
 
 use crate::locks::board::Board;
 use crate::locks::drive::Random;
@@ -38,7 +39,7 @@ struct Reply {
 
 fn emit_reply(b: &mut Builder, width: u8) -> Result<Reply, NoMemory>
     requires low { 1 ≤ width }
-    requires high { width ≤ 64 }
+    requires high { width ≤ widest }
     ensures bit { IfOk result (λ r. HasWidth b.new r.bit 1) }
     ensures word { IfOk result (λ r. HasWidth b.new r.word width) }
 {
@@ -72,7 +73,7 @@ fn emit_driven(
     places: u8,
 ) -> Result<Driven, NoMemory>
     requires low { 1 ≤ mem.now.width }
-    requires high { mem.now.width ≤ 64 }
+    requires high { mem.now.width ≤ widest }
     requires some { 1 ≤ places }
     requires few { places ≤ 2 }
 {

@@ -11,14 +11,13 @@ use Rattle.pdl_asm.proofs.assembler.define_labels.Goals as goal
 pub loop-rest-preserved : goal.loop-rest-preserved
 loop-rest-preserved c =
     let later = lines c.split_line.result.1.now in
-    let z : cast_signed w128 (cast_unsigned w128 c.after_line-place.result) ≡ c.after_line-place.result = search rules in
     let e = placed_first c.args.table.now _ _ c.split_line.result.0.now later (lines c.loop-rest.rest.now) c.in_ok-line.line
-    c.split_line.ensures.value c.in_ok-line.ensures (z ∙ c.after_line-place.ensures.value) in
+    c.split_line.ensures.value c.in_ok-line.ensures c.after_line-place.ensures.value in
     record {
       room = omega (arith, c.split_line.ensures.shorter);
-      near = subst (IsNear (length c.args.text.now - length c.split_line.result.1.now)) (sym z)
-          (near_later (length c.args.text.now - length c.loop-rest.rest.now + 1) _ _ (c.after_line-place.ensures.near _ c.loop-rest.invariant.near)
-          (omega (arith, c.split_line.ensures.shorter, c.loop-rest.invariant.room)));
+      near =
+          near_later (length c.args.text.now - length c.loop-rest.rest.now + 1) _ _ (c.after_line-place.ensures.near _ c.loop-rest.invariant.near)
+          (omega (arith, c.split_line.ensures.shorter, c.loop-rest.invariant.room));
       labels = labels_more _ _ _ _ _ _ _ e c.in_ok-define_label.ensures c.loop-rest.invariant.labels;
     }
 

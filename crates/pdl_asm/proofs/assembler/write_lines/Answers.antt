@@ -1,4 +1,4 @@
-use Rattle.std.proofs.Common.{◌≡◌, ◌-◌, ◌+◌, List, sym, subst, ◌∙◌, arith, pos, refl, length, rules, take}
+use Rattle.std.proofs.Common.{◌≡◌, ◌-◌, ◌+◌, List, [], sym, subst, ◌∙◌, arith, pos, refl, length, rules, take}
 use Rattle.std.proofs.lemmas.Int.{ints}
 use Rattle.std.specs.Int.{cast_signed, cast_unsigned, w128}
 use Rattle.std.proofs.lemmas.Bool.{eqb-true}
@@ -12,13 +12,16 @@ use Rattle.pdl_asm.proofs.assembler.write_lines.Goals as goal
 
 pub loop-rest-init : goal.loop-rest-init
 loop-rest-init c =
-    let all = lines_from c.args.table.now (pos 0) (lines c.args.text.now) in
+    let t = c.args.table.now in
+    let all = lines_from t (pos 0) (lines c.args.text.now) in
+    let e = sym c.from_count-place.ensures in
     record {
       room = omega arith;
-      near = (omega (arith, ints), omega (arith, ints));
+      near = subst (IsNear (length c.args.text.now - length c.args.text.now)) e (omega (arith, ints), omega (arith, ints));
       count = omega arith;
       few = omega arith;
-      taken = taken_none c.args.table.now c.args.labels.now all c.args.words.now c.requires.empty;
+      taken = subst (λ z. Taken t c.args.labels.now all 1 (lines_from t z (lines c.args.text.now)) [] c.args.words.now) e
+          (taken_none t c.args.labels.now all c.args.words.now c.requires.empty);
     }
 
 pub loop-rest-preserved : goal.loop-rest-preserved
@@ -27,16 +30,15 @@ loop-rest-preserved c =
     let ls = c.args.labels.now in
     let all = lines_from t (pos 0) (lines c.args.text.now) in
     let later = lines c.split_line.result.1.now in
-    let place = cast_signed w128 c.loop-rest.place-bits in
-    let z : cast_signed w128 (cast_unsigned w128 c.after_line-place.result) ≡ c.after_line-place.result = search rules in
+    let place = c.loop-rest.place in
     let e = placed_first t place _ c.split_line.result.0.now later (lines c.loop-rest.rest.now) c.in_ok-line.line
-    c.split_line.ensures.value c.in_ok-line.ensures (z ∙ c.after_line-place.ensures.value) in
+    c.split_line.ensures.value c.in_ok-line.ensures c.after_line-place.ensures.value in
     let P : List Placed → Type 0 = λ r. Taken t ls all c.loop-rest.number r (take c.loop-rest.before ls) c.loop-rest.words in
     record {
       room = omega (arith, c.split_line.ensures.shorter);
-      near = subst (IsNear (length c.args.text.now - length c.split_line.result.1.now)) (sym z)
-          (near_later (length c.args.text.now - length c.loop-rest.rest.now + 1) _ _ (c.after_line-place.ensures.near _ c.loop-rest.invariant.near)
-          (omega (arith, c.split_line.ensures.shorter, c.loop-rest.invariant.room)));
+      near =
+          near_later (length c.args.text.now - length c.loop-rest.rest.now + 1) _ _ (c.after_line-place.ensures.near _ c.loop-rest.invariant.near)
+          (omega (arith, c.split_line.ensures.shorter, c.loop-rest.invariant.room));
       count = omega (arith, c.split_line.ensures.shorter);
       few =
           omega
@@ -55,16 +57,15 @@ loop-rest-preserved-in-Ok c =
     let ls = c.args.labels.now in
     let all = lines_from t (pos 0) (lines c.args.text.now) in
     let later = lines c.split_line.result.1.now in
-    let place = cast_signed w128 c.loop-rest.place-bits in
-    let z : cast_signed w128 (cast_unsigned w128 c.after_line-place.result) ≡ c.after_line-place.result = search rules in
+    let place = c.loop-rest.place in
     let e = placed_first t place _ c.split_line.result.0.now later (lines c.loop-rest.rest.now) c.in_ok-line.line
-    c.split_line.ensures.value c.in_ok-line.ensures (z ∙ c.after_line-place.ensures.value) in
+    c.split_line.ensures.value c.in_ok-line.ensures c.after_line-place.ensures.value in
     let P : List Placed → Type 0 = λ r. Taken t ls all c.loop-rest.number r (take c.loop-rest.before ls) c.loop-rest.words in
     record {
       room = omega (arith, c.split_line.ensures.shorter);
-      near = subst (IsNear (length c.args.text.now - length c.split_line.result.1.now)) (sym z)
-          (near_later (length c.args.text.now - length c.loop-rest.rest.now + 1) _ _ (c.after_line-place.ensures.near _ c.loop-rest.invariant.near)
-          (omega (arith, c.split_line.ensures.shorter, c.loop-rest.invariant.room)));
+      near =
+          near_later (length c.args.text.now - length c.loop-rest.rest.now + 1) _ _ (c.after_line-place.ensures.near _ c.loop-rest.invariant.near)
+          (omega (arith, c.split_line.ensures.shorter, c.loop-rest.invariant.room));
       count = omega (arith, c.split_line.ensures.shorter);
       few =
           omega
@@ -83,16 +84,15 @@ loop-rest-preserved-in-Ok-2 c =
     let ls = c.args.labels.now in
     let all = lines_from t (pos 0) (lines c.args.text.now) in
     let later = lines c.split_line.result.1.now in
-    let place = cast_signed w128 c.loop-rest.place-bits in
-    let z : cast_signed w128 (cast_unsigned w128 c.after_line-place.result) ≡ c.after_line-place.result = search rules in
+    let place = c.loop-rest.place in
     let e = placed_first t place _ c.split_line.result.0.now later (lines c.loop-rest.rest.now) c.in_ok-line.line
-    c.split_line.ensures.value c.in_ok-line.ensures (z ∙ c.after_line-place.ensures.value) in
+    c.split_line.ensures.value c.in_ok-line.ensures c.after_line-place.ensures.value in
     let P : List Placed → Type 0 = λ r. Taken t ls all c.loop-rest.number r (take c.loop-rest.before ls) c.loop-rest.words in
     record {
       room = omega (arith, c.split_line.ensures.shorter);
-      near = subst (IsNear (length c.args.text.now - length c.split_line.result.1.now)) (sym z)
-          (near_later (length c.args.text.now - length c.loop-rest.rest.now + 1) _ _ (c.after_line-place.ensures.near _ c.loop-rest.invariant.near)
-          (omega (arith, c.split_line.ensures.shorter, c.loop-rest.invariant.room)));
+      near =
+          near_later (length c.args.text.now - length c.loop-rest.rest.now + 1) _ _ (c.after_line-place.ensures.near _ c.loop-rest.invariant.near)
+          (omega (arith, c.split_line.ensures.shorter, c.loop-rest.invariant.room));
       count = omega (arith, c.split_line.ensures.shorter);
       few =
           omega
@@ -111,16 +111,15 @@ loop-rest-preserved-in-Ok-3 c =
     let ls = c.args.labels.now in
     let all = lines_from t (pos 0) (lines c.args.text.now) in
     let later = lines c.split_line.result.1.now in
-    let place = cast_signed w128 c.loop-rest.place-bits in
-    let z : cast_signed w128 (cast_unsigned w128 c.after_line-place.result) ≡ c.after_line-place.result = search rules in
+    let place = c.loop-rest.place in
     let e = placed_first t place _ c.split_line.result.0.now later (lines c.loop-rest.rest.now) c.in_ok-line.line
-    c.split_line.ensures.value c.in_ok-line.ensures (z ∙ c.after_line-place.ensures.value) in
+    c.split_line.ensures.value c.in_ok-line.ensures c.after_line-place.ensures.value in
     let P : List Placed → Type 0 = λ r. Taken t ls all c.loop-rest.number r (take c.loop-rest.before ls) c.loop-rest.words in
     record {
       room = omega (arith, c.split_line.ensures.shorter);
-      near = subst (IsNear (length c.args.text.now - length c.split_line.result.1.now)) (sym z)
-          (near_later (length c.args.text.now - length c.loop-rest.rest.now + 1) _ _ (c.after_line-place.ensures.near _ c.loop-rest.invariant.near)
-          (omega (arith, c.split_line.ensures.shorter, c.loop-rest.invariant.room)));
+      near =
+          near_later (length c.args.text.now - length c.loop-rest.rest.now + 1) _ _ (c.after_line-place.ensures.near _ c.loop-rest.invariant.near)
+          (omega (arith, c.split_line.ensures.shorter, c.loop-rest.invariant.room));
       count = omega (arith, c.split_line.ensures.shorter);
       few =
           omega
@@ -139,7 +138,7 @@ returns-in-Err c =
     let ls = c.args.labels.now in
     let all = lines_from t (pos 0) (lines c.args.text.now) in
     let later = lines c.split_line.result.1.now in
-    let place = cast_signed w128 c.loop-rest.place-bits in
+    let place = c.loop-rest.place in
     let e =
     placed_first t place _ c.split_line.result.0.now later
     (lines c.loop-rest.rest.now) c.in_ok-line.line c.split_line.ensures.value c.in_ok-line.ensures refl in

@@ -11,11 +11,8 @@ use Rattle.pdl_asm.proofs.encode.+letter_value.Goals as goal
 pub returns-then-arg-letter : goal.returns-then-arg-letter
 returns-then-arg-letter t c =
     let d : Arg = record { letter = 0; kind = Reg } in
-    let z : ℤ = cast_signed w128 (cast_unsigned w128 c.args.place) in
-    let P : ℤ → Type 0 =
-    λ y. c.unwrap_or.result ≡ letter_value c.args.table.now c.args.labels.now y c.args.bits.now c.args.args.now c.args.operands.now c.args.letter in
-    subst P (to_z-of_z _ _ c.ranges.place)
-    (c.unwrap_or.ensures ∙ ap (λ r. result_unwrap_or r 0) c.argument_value.ensures
+    let z : ℤ = c.args.place.now in
+    c.unwrap_or.ensures ∙ ap (λ r. result_unwrap_or r 0) c.argument_value.ensures
     ∙ unwrap_is (argument_value c.args.table.now c.args.labels.now z c.args.bits.now (get_or c.args.args.now 0 d) c.operand-item.result)
     ∙ letter_first c.args.table.now c.args.labels.now z c.args.bits.now c.args.args.now c.args.operands.now c.args.letter
-    (get_or c.args.args.now 0 d) d c.operand-item.result c.in-len1-up.len_at_least c.in-len1-up-operands.len_at_least refl c.operand-item.is c.if-arg-letter.true)
+    (get_or c.args.args.now 0 d) d c.operand-item.result c.in-len1-up.len_at_least c.in-len1-up-operands.len_at_least refl c.operand-item.is c.if-arg-letter.true

@@ -10,10 +10,8 @@ use Rattle.pdl_asm.proofs.rules.+operands_rule.Goals as goal
 pub returns-in-len1-up-operands : goal.returns-in-len1-up-operands
 returns-in-len1-up-operands t c =
     let d : Arg = record { letter = 0; kind = Reg } in
-    let z : ℤ = cast_signed w128 (cast_unsigned w128 c.args.place) in
-    let P : ℤ → Type 0 = λ y. c.lower.result ≡ operands_rule c.args.table.now c.args.labels.now y c.args.bits.now c.args.args.now c.args.operands.now in
-    subst P (to_z-of_z _ _ c.ranges.place)
-    (c.lower.ensures
+    let z : ℤ = c.args.place.now in
+    c.lower.ensures
     ∙ rule_first c.args.table.now c.args.labels.now z c.args.bits.now c.args.args.now c.args.operands.now
     (get_or c.args.args.now 0 d) d c.operand-item.result c.rule_of-first.result c.operands_rule-others.result c.in-len1-up.len_at_least c.in-len1-up-operands.len_at_least refl c.operand-item.is
-    (c.rule_of-first.ensures ∙ ap rule_of c.argument_value.ensures) c.operands_rule-others.ensures)
+    (c.rule_of-first.ensures ∙ ap rule_of c.argument_value.ensures) c.operands_rule-others.ensures

@@ -7,8 +7,4 @@ use Rattle.pdl_asm.proofs.rules.operation_rule.Goals as goal
 
 pub returns-in-Insn : goal.returns-in-Insn
 returns-in-Insn c =
-    let P : ℤ → Type 0 = λ z. c.insn_rule.result ≡ operation_rule c.args.table.now c.args.labels.now c.args.taken z c.args.operation.now in
-    subst P (to_z-of_z _ _ c.ranges.place)
-    (rule_of_insn c.args.table.now c.args.labels.now c.args.taken
-    (cast_signed w128
-    (cast_unsigned w128 c.args.place)) c.in-Insn.name c.in-Insn.operands c.args.operation.now c.insn_rule.result c.insn_rule.ensures c.in-Insn.is)
+    rule_of_insn c.args.table.now c.args.labels.now c.args.taken c.args.place.now c.in-Insn.name c.in-Insn.operands c.args.operation.now c.insn_rule.result c.insn_rule.ensures c.in-Insn.is

@@ -55,7 +55,7 @@ returns-in-Cell-clause-value c =
     ap (λ (n : Extent). n.width) (c.index-in-Cell.ensures ∙ get_or_default b.extents.items k c.index-in-Cell.result.now no_cell lt)
     ∙ cell_is (circuit_of_parts b) c.args.self.now b.input_widths.items b.extents.items c.args.net k h c.self.view_is c.in-Cell.is c.requires
 
--- each net has 1 to 64 bits
+-- each net has 1 to widest bits
 has_width : (c v : Circuit) (x : Net) → IsWell c → c ≡ v → IsThere v x → IsWidth (signal v x).width
 has_width c v x w e t = wide v (subst IsWell e w) x t
 

@@ -10,6 +10,7 @@ use Rattle.pdl_cli_commands.specs.Summaries.{image_of}
 use Rattle.pdl_cli_commands.proofs.OutputCount.{two_outputs}
 use Rattle.pdl_cli_commands.proofs.RunSummaries.{is_image, is_summary}
 use Rattle.pdl_cli_commands.proofs.summary.end_of.Goals as goal
+use Rattle.pdl_word.specs.Words.{widest}
 
 pub image_of-requires-clause-low : goal.image_of-requires-clause-low
 image_of-requires-clause-low c =
@@ -17,7 +18,7 @@ image_of-requires-clause-low c =
 
 pub image_of-requires-clause-high : goal.image_of-requires-clause-high
 image_of-requires-clause-high c =
-    subst (All (λ m. m.width ≤ 64)) (sym c.as_slice.ensures) (λ k d l. (mems_wide c.in_ok-netlist.netlist c.in_ok-netlist.ensures.follows.well_formed k d l).1)
+    subst (All (λ m. m.width ≤ widest)) (sym c.as_slice.ensures) (λ k d l. (mems_wide c.in_ok-netlist.netlist c.in_ok-netlist.ensures.follows.well_formed k d l).1)
 
 pub count-requires-clause-well : goal.count-requires-clause-well
 count-requires-clause-well c = c.in_ok-netlist.ensures.follows.well_formed

@@ -11,6 +11,6 @@ walk_rest-requires-clause-fit g c =
     let ws = array_words c.args.arrays.now in
     let n : ℕ = length os / 8 * 8 in
     let within : n ≤ length os = omega arith in
-    subst (λ (l : List CellOperands). StepsFit (steps_with kind l) (c.args.first + n) c.walk_eights.new.values ws) (sym (left_all os n))
-    (subst (λ (x : List ℕ). StepsFit (steps_with kind (drop n os)) (c.args.first + n) x ws) (sym c.walk_eights.ensures)
-    ((halves_fit kind os n c.args.first c.args.values.now ws within c.requires.fit).1))
+    subst (λ (l : List CellOperands). StepsFit 64 (steps_with kind l) (c.args.first + n) c.walk_eights.new.values ws) (sym (left_all os n))
+    (subst (λ (x : List ℕ). StepsFit 64 (steps_with kind (drop n os)) (c.args.first + n) x ws) (sym c.walk_eights.ensures)
+    ((halves_fit 64 kind os n c.args.first c.args.values.now ws within c.requires.fit).1))

@@ -24,8 +24,8 @@ loop-k-preserved g c =
           ∙ eights_after kind os first (8 * k) 8 vs ws within
           ∙ c.loop-k.invariant.rest;
       fit =
-          subst (λ i. StepsFit (steps_with kind (drop i os)) (first + i) new ws) (sym more)
-          (subst (λ (x : List ℕ). StepsFit (steps_with kind (drop (8 * k + 8) os)) (first + (8 * k + 8)) x ws) (sym is)
-          ((eights_fit kind os first (8 * k) 8 vs ws within c.loop-k.invariant.fit).1));
+          subst (λ i. StepsFit 64 (steps_with kind (drop i os)) (first + i) new ws) (sym more)
+          (subst (λ (x : List ℕ). StepsFit 64 (steps_with kind (drop (8 * k + 8) os)) (first + (8 * k + 8)) x ws) (sym is)
+          ((eights_fit 64 kind os first (8 * k) 8 vs ws within c.loop-k.invariant.fit).1));
       count = ap length is ∙ after_length (steps_with kind (take 8 (drop (8 * k) os))) (first + 8 * k) vs ws ∙ c.loop-k.invariant.count;
     }

@@ -7,6 +7,6 @@ invariant-loop-run l = record {
   room : l.at + length (steps_of (drop l.run-index l.runs)) ≡ l.first + length (steps_of l.runs);
   rest : after_steps (steps_of (drop l.run-index l.runs)) l.at l.values (array_words l.arrays)
       ≡ after_steps (steps_of l.runs) l.first l.initial.values (array_words l.arrays);
-  fit : StepsFit (steps_of (drop l.run-index l.runs)) l.at l.values (array_words l.arrays);
+  fit : StepsFit 64 (steps_of (drop l.run-index l.runs)) l.at l.values (array_words l.arrays);
   count : length l.values ≡ length l.initial.values;
 }

@@ -10,6 +10,7 @@ use Rattle.pdl_pipe_registers.specs.Stages.{zero_signal}
 use Rattle.pdl_pipe_registers.proofs.Widths.{wide_low, wide_high}
 use Rattle.pdl_pipe_registers.proofs.Begins.{signals_more}
 use Rattle.pdl_pipe.proofs.emitting.zeros.Goals as goal
+use Rattle.pdl_word.specs.Words.{widest}
 
 pub constant-requires-clause-low : goal.constant-requires-clause-low
 constant-requires-clause-low c =
@@ -21,7 +22,7 @@ pub constant-requires-clause-high : goal.constant-requires-clause-high
 constant-requires-clause-high c =
     let n = c.vars-x-end.ensures in
     let t = c.loop-x-test.true in
-    subst (λ w. w ≤ 64) (sym c.width.ensures) (wide_high (form c.args.pipe.now).widths c.loop-x.x (omega (arith, n, t)) c.requires.wide)
+    subst (λ w. w ≤ widest) (sym c.width.ensures) (wide_high (form c.args.pipe.now).widths c.loop-x.x (omega (arith, n, t)) c.requires.wide)
 
 pub loop-x-preserved : goal.loop-x-preserved
 loop-x-preserved c =

@@ -3,12 +3,13 @@ use Rattle.std.specs.Prelude.{slice_index}
 use Rattle.pdl_form.specs.FormView.{form}
 use Rattle.pdl_pipe_registers.proofs.Widths.{wide_low, wide_high, start_fits}
 use Rattle.pdl_pipe_registers.proofs.entry.first_var.Goals as goal
+use Rattle.pdl_word.specs.Words.{widest}
 
 pub keep-requires-clause-low : goal.keep-requires-clause-low
 keep-requires-clause-low c = subst (λ n. 1 ≤ n) (sym c.width.ensures) (wide_low (form c.args.pipe.now).widths c.args.x c.requires.low c.requires.typed.wide)
 
 pub keep-requires-clause-high : goal.keep-requires-clause-high
-keep-requires-clause-high c = subst (λ n. n ≤ 64) (sym c.width.ensures) (wide_high (form c.args.pipe.now).widths c.args.x c.requires.low c.requires.typed.wide)
+keep-requires-clause-high c = subst (λ n. n ≤ widest) (sym c.width.ensures) (wide_high (form c.args.pipe.now).widths c.args.x c.requires.low c.requires.typed.wide)
 
 pub keep-requires-clause-fits : goal.keep-requires-clause-fits
 keep-requires-clause-fits c =

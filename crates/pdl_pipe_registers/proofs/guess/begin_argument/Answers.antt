@@ -9,6 +9,7 @@ use Rattle.pdl_pipe_exprs.proofs.NetLists.{width_at}
 use Rattle.pdl_pipe_registers.proofs.SettledItems.{twin_width}
 use Rattle.pdl_pipe_registers.proofs.Widths.{wide_low, wide_high}
 use Rattle.pdl_pipe_registers.proofs.guess.begin_argument.Goals as goal
+use Rattle.pdl_word.specs.Words.{widest}
 
 pub begin_item-requires-clause-low : goal.begin_item-requires-clause-low
 begin_item-requires-clause-low c =
@@ -17,7 +18,7 @@ begin_item-requires-clause-low c =
 
 pub begin_item-requires-clause-high : goal.begin_item-requires-clause-high
 begin_item-requires-clause-high c =
-    subst (λ n. n ≤ 64) (sym c.width.ensures)
+    subst (λ n. n ≤ widest) (sym c.width.ensures)
     (wide_high (form c.args.pipe.now).widths c.args.i (let l = c.requires.low in let p = c.requires.typed.params in omega (arith, l, p)) c.requires.typed.wide)
 
 pub returns-in-Some-clause-begins : goal.returns-in-Some-clause-begins

@@ -5,6 +5,7 @@ use Rattle.pdl_form_lower.specs.Variables.{Scope, vars_of}
 use Rattle.pdl_form_lower.specs.declared.vars.NumberedVariable.{NumberedVariable}
 use Rattle.pdl_form_lower.proofs.Numbering.{number_within, width_found, width_missing}
 use Rattle.pdl_form_lower.proofs.vars.Vars.width.Goals as goal
+use Rattle.pdl_word.specs.Words.{widest}
 
 pub width_at-requires : goal.width_at-requires
 width_at-requires c =
@@ -29,7 +30,7 @@ returns-in-Some-clause-value c =
 pub returns-in-Some-clause-small : goal.returns-in-Some-clause-small
 returns-in-Some-clause-small c =
     let value = returns-in-Some-clause-value c in
-    let small = subst (λ (s : Scope). var_width s.vars c.args.name.now ≤ 64) c.self.view_is (c.self.invariant.small c.args.name.now) in
+    let small = subst (λ (s : Scope). var_width s.vars c.args.name.now ≤ widest) c.self.view_is (c.self.invariant.small c.args.name.now) in
     omega arith
 
 pub returns-in-None-clause-value : goal.returns-in-None-clause-value

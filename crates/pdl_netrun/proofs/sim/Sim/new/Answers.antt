@@ -7,6 +7,7 @@ use Rattle.pdl_net.specs.Pipe.{IsWellFormed}
 use Rattle.pdl_net.specs.Run.{delayed_mems}
 use Rattle.pdl_net.proofs.StartState.{image_part_fits, holds_start}
 use Rattle.pdl_net.proofs.PipeMems.{delayed_in_front}
+use Rattle.pdl_net.proofs.CommitWidths.{addressed_fits, addressed2_fits}
 use Rattle.pdl_image.specs.Images.{IsImage}
 use Rattle.pdl_netrun.specs.Steps.{array_words}
 use Rattle.pdl_netrun.specs.Sim.{Run}
@@ -50,6 +51,10 @@ plan_of-requires-clause-holds c =
     let k = c.count_delayed-delayed.result in
     holds_start c.args.net.now (drop k c.args.image.now) c.in_ok-resets.resets.items (array_words c.in_ok-arrays.arrays.items) c.requires.well.well
     (fits c.args.net.now c.args.image.now k c.requires.well c.requires.image c.count_delayed-delayed.ensures) c.in_ok-resets.ensures c.in_ok-arrays.ensures
+
+pub plan_of-requires-clause-addresses : goal.plan_of-requires-clause-addresses
+plan_of-requires-clause-addresses c =
+    λ mem. (addressed_fits c.args.net.now c.requires.well mem, addressed2_fits c.args.net.now c.requires.well mem)
 
 pub returns : goal.returns
 returns c =

@@ -1,0 +1,60 @@
+// A cycle over words of 64 bits.
+
+ghost use Rattle.std.specs.Prelude.{◌≡◌, ◌+◌, ◌≤◌, length, map, slice_index};
+ghost use Rattle.pdl_netrun.specs.Held.{AreSmall, PlanFits, after_plan, lists_of, put_at};
+ghost use Rattle.pdl_netrun.specs.Steps.{AreBelow};
+
+use crate::cycle_plan::CyclePlan;
+use crate::held::WordLists;
+use crate::walk::walk_runs;
+use crate::writes::write_words;
+use pdl_word::Word;
+
+/// Runs one cycle by a plan, with these values of the inputs.
+pub fn step(plan: &CyclePlan, inputs: &[Word], lists: &mut WordLists<u64>)
+    requires { PlanFits 64 plan.now inputs.now (lists_of lists.old) }
+    ensures { lists_of lists.new ≡ after_plan plan.now inputs.now (lists_of lists.old) }
+{
+    put_inputs(inputs, &mut lists.values);
+    put_words(&lists.next, plan.first_reg, &mut lists.values);
+    walk_runs(
+        &plan.runs,
+        plan.first_cell,
+        &lists.arrays,
+        &mut lists.values,
+    );
+    read_places(&plan.nexts, &lists.values, &mut lists.next);
+    write_words(&plan.writes, &lists.values, &mut lists.arrays);
+}
+
+/// Puts words of no more than 64 bits into the front of a list.
+#[tactic(auto, using(crate::proofs::Fronts::fronts))]
+fn put_inputs(inputs: &[Word], values: &mut [u64])
+    requires small { AreSmall 64 inputs.now }
+    requires room { 0 + length inputs.now ≤ length values.old }
+    ensures { values.new ≡ put_at 0 values.old inputs.now }
+{
+    for k in 0..inputs.len() {
+        values[k] = inputs[k] as u64;
+    }
+}
+
+/// Puts words into a list, from a place on.
+fn put_words(words: &[u64], at: usize, values: &mut [u64])
+    requires { at + length words.now ≤ length values.old }
+    ensures { values.new ≡ put_at at values.old words.now }
+{
+    values[at..at + words.len()].copy_from_slice(words);
+}
+
+/// The values at these places.
+#[tactic(auto, using(crate::proofs::Steps::reads))]
+fn read_places(places: &[u32], values: &[u64], out: &mut [u64])
+    requires there { AreBelow (length values.now) places.now }
+    requires room { length out.old ≡ length places.now }
+    ensures { out.new ≡ map (slice_index values.now) places.now }
+{
+    for k in 0..out.len() {
+        out[k] = values[places[k] as usize];
+    }
+}

@@ -1,0 +1,181 @@
+#!/usr/bin/env python3
+"""Compares every operator at each width from 1 to 128 bits with the model in tools/pdl_model.
+
+    random_operators.py PDL [PAIRS [SEED [TOOLS]]]
+
+For each width a pipe reads PAIRS pairs of words and writes what each operator makes of them, with slices, extensions and
+words side by side of random widths. PAIRS is a power of two, 64 where none is given. The first pairs are of corners: 0, 1,
+the greatest word, the middle of the range, and amounts of shifts about the width and about 64. What the program PDL prints
+by `run`, and by `sim` of what it builds, has to be what the model makes of each pair.
+Where TOOLS is 1, which is 0 where it isn't given, those of Icarus Verilog, Verilator and Yosys that are installed are asked
+too: the first two run the text that is built, and Icarus what Yosys makes of it.
+"""
+
+import itertools
+import pathlib
+import random
+import shutil
+import tempfile
+
+import usage
+from pdl_model import words
+from pdl_model.words import Word
+from real_tools import Module, bench, said
+
+# What of two words x and y is a word of their width: a memory that receives it, its expression, and what it is.
+OF_ONE_WIDTH = {
+    "sum": ("x + y", words.BINARY["+"]),
+    "less": ("x - y", words.BINARY["-"]),
+    "product": ("x * y", words.BINARY["*"]),
+    "both": ("x & y", words.BINARY["&"]),
+    "either": ("x | y", words.BINARY["|"]),
+    "one": ("x ^ y", words.BINARY["^"]),
+    "up": ("x << y", words.BINARY["<<"]),
+    "down": ("x >> y", words.BINARY[">>"]),
+    "other": ("~x", lambda x, y: words.inverted(x)),
+    "lower": ("x < y ? x : y", min),
+}
+TESTS = ["==", "!=", "<", "lts"]
+
+
+def joined(*parts):
+    """Words side by side, the first one highest."""
+    found = parts[0]
+    for it in parts[1:]:
+        found = words.BINARY["cat"](found, it)
+    return found
+
+
+class Row:
+    """What a memory receives: its name, its width, the expression, and the value by the model."""
+
+    def __init__(self, name, width, text, value):
+        self.name, self.width, self.text, self.value = name, width, text, value
+
+
+def rows(chance, width):
+    """What is made of the pairs of a width."""
+    found = [Row(name, width, text, value) for name, (text, value) in OF_ONE_WIDTH.items()]
+    tests = "cat(cat(x == y, x != y), cat(x < y, lts(x, y)))"
+    found.append(Row("tests", 4, tests, lambda x, y: joined(*(words.BINARY[it](x, y) for it in TESTS))))
+    high, low = sorted((chance.randrange(width), chance.randrange(width)), reverse=True)
+    found.append(Row("part", high - low + 1, f"x[{high}:{low}]", lambda x, y: words.part(x, high, low)))
+    left = chance.randint(1, min(width, words.WIDEST - 1))
+    right = chance.randint(1, min(width, words.WIDEST - left))
+    found.append(Row("beside", left + right, f"cat(x[{left - 1}:0], y[{width - 1}:{width - right}])",
+                     lambda x, y: joined(words.part(x, left - 1, 0), words.part(y, width - 1, width - right))))
+    wide = chance.choice([width, words.WIDEST, chance.randint(width, words.WIDEST)])
+    found.append(Row("wider", wide, f"sext(x, {wide}) ^ zext(y, {wide})",
+                     lambda x, y: words.BINARY["^"](words.extended(x, wide, True), words.extended(y, wide, False))))
+    return found
+
+
+def source(width, bits, made):
+    """The pipe, whose n-th thread is of the n-th pair."""
+    inputs = [f"{name}: uint<{width}>[{1 << bits}] comb" for name in ("a", "b")]
+    outputs = [f"{it.name}: uint<{it.width}>[{1 << bits}] comb lock queue(1)" for it in made]
+    lines = [f"acquire({it.name}[n], W); {it.name}[n] <- {it.text}; release({it.name}[n]);" for it in made]
+    body = "\n".join(["x = a[n]; y = b[n];", *lines, f"call(n + {bits}'d1);"])
+    return f"pipe p(n: uint<{bits}>)\n[{', '.join(inputs + outputs)}] {{\n{body}\n}} start p({bits}'d0);\n"
+
+
+def pairs(chance, width, count):
+    """Pairs of words, those of corners first in any order."""
+    most = (1 << width) - 1
+    corners = sorted({it & most for it in (0, 1, most, most - 1, most >> 1, (most >> 1) + 1)})
+    amounts = sorted({it for it in (width - 1, width, width + 1, 63, 64, 65, 127) if it <= most})
+    found = [*itertools.product(corners, corners), *((chance.getrandbits(width), it) for it in amounts)]
+    chance.shuffle(found)
+    while len(found) < count:
+        found.append((chance.getrandbits(width), chance.choice([chance.getrandbits(width), chance.randrange(width + 2) & most])))
+    return [(Word(x, width), Word(y, width)) for x, y in found[:count]]
+
+
+def lines_of(made, found):
+    """What `run` prints of the pairs, by the model."""
+    lines = [f"{at + 1} {it.name} {at} {it.value(x, y).value:0{(it.width + 3) // 4}x}"
+             for at, (x, y) in enumerate(found) for it in made]
+    return [*lines, f"end cycles {len(found)} ended {len(found)} waits 0 squashes 0"]
+
+
+def by_ports(module, text, made):
+    """The lines of the commits that a test bench shows, without the end line, or what it says where it shows no ports."""
+    names = [name for name, _ in module.outputs]
+    found = []
+    for cycle, row in enumerate((line.split() for line in text.splitlines() if not line.startswith(("bench.v:", "- "))), 1):
+        if len(row) != len(names):
+            return text.splitlines()[:5]
+        ports = dict(zip(names, row))
+        for it in made:
+            if int(ports[f"c_{it.name}"], 16):
+                value = int(ports[f"cd_{it.name}"], 16)
+                found.append(f"{cycle} {it.name} {int(ports[f'ca_{it.name}'], 16)} {value:0{(it.width + 3) // 4}x}")
+    return found
+
+
+def others(module, folder):
+    """The calls of the tools that are installed, each with its name; the last call of each shows the ports."""
+    icarus = lambda file: [["iverilog", "-g2005", "-o", "bench.vvp", "bench.v", file], ["vvp", "-n", "bench.vvp"]]
+    if shutil.which("iverilog"):
+        yield "Icarus Verilog", icarus(module.file)
+    if shutil.which("verilator"):
+        made = ["verilator", "--binary", "-Wno-fatal", "-Wno-lint", "-Wno-style", "--top-module", "bench", "bench.v", module.file]
+        yield "Verilator", [made, [str(folder / "obj_dir" / "Vbench")]]
+    if shutil.which("yosys") and shutil.which("iverilog"):
+        passes = f"read_verilog {module.file}; proc; opt -full; wreduce; peepopt; opt -full; write_verilog -noattr yosys.v"
+        yield "Yosys", [["yosys", "-q", "-p", passes], *icarus("yosys.v")]
+
+
+def judged(program, width, count, chance, with_tools, folder):
+    """All that is wrong at a width, and how many words were compared."""
+    made, found = rows(chance, width), pairs(chance, width, count)
+    text = source(width, (count - 1).bit_length(), made)
+    image = "\n".join(["image 1", *(f"{name} {at} {it[k].value:x}" for at, it in enumerate(found) for k, name in enumerate("ab"))])
+    wanted = lines_of(made, found)
+    for name, content in (("source.pdl", text), ("image.img", image + "\n")):
+        (folder / name).write_text(content)
+    wrong = []
+    status, built = said([program, "build", "source.pdl"], folder)
+    if status:
+        return [f"width {width}: {built.strip()}"], 0
+    module = Module(built)
+    (folder / module.file).write_text(built)
+    for words_of_call in (["run", "source.pdl"], ["sim", module.file]):
+        status, said_of_it = said([program, *words_of_call, "image.img", str(count)], folder)
+        if status or said_of_it.splitlines() != wanted:
+            wrong.append(f"width {width}: {words_of_call[0]}: {differing(said_of_it.splitlines(), wanted)}")
+    if with_tools:
+        (folder / "bench.v").write_text(bench(module, image, lambda cycle: [], count))
+        for name, calls in others(module, folder):
+            answers = [said(it, folder) for it in calls]
+            shown = by_ports(module, answers[-1][1], made)
+            if shown != wanted[:-1]:
+                wrong.append(f"width {width}: {name}: {differing(shown, wanted)} {answers[0][1][:300]}")
+    return wrong, len(found) * len(made)
+
+
+def differing(lines, wanted):
+    """The first lines that differ."""
+    return next(((a, b) for a, b in itertools.zip_longest(lines, wanted) if a != b), "")
+
+
+def main():
+    given = usage.words(__doc__, 1, 4)
+    program = usage.program(given[0])
+    count, seed, with_tools = map(usage.number, given[1:] + ["64", "1", "0"][len(given) - 1 :])
+    if count < 2 or count & (count - 1):
+        usage.ends(f"{count} is no power of two from 2 on")
+    asked = wrong = 0
+    with tempfile.TemporaryDirectory() as name:
+        for width in range(1, words.WIDEST + 1):
+            found, compared = judged(program, width, count, random.Random(f"{seed} {width}"), with_tools, pathlib.Path(name))
+            asked += compared
+            wrong += len(found)
+            for it in found:
+                print(it)
+    print(f"words {asked} wrong {wrong}")
+    return 1 if wrong else 0
+
+
+if __name__ == "__main__":
+    usage.runs(main)
