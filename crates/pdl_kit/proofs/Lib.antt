@@ -1,3 +1,2 @@
 pub mod ResumedWrites
-pub mod FileMap
 pub mod Fits

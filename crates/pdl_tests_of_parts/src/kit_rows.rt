@@ -1,8 +1,6 @@
 // Faults of files and sinks. Each helper answers without memory as it would where the call is wrong.
-use pdl_kit::{
-    Files, MemFile, MemFiles, MemSink, Name, ReadError, RealFiles, Refusal, Seq, Sink, StdSink,
-    WriteFailed, write_whole,
-};
+use pdl_kit::{MemSink, Name, ReadError, Refusal, Seq, Sink, WriteFailed, write_whole};
+use pdl_system::{Files, MemFile, MemFiles, RealFiles, StdSink};
 use std::alloc::{AllocError, Global};
 use std::io;
 use std::io::Write;
