@@ -22,7 +22,7 @@ use Rattle.pdl_pipe_walk.specs.Locked.{Members, locks_in, AreLocked}
 use Rattle.pdl_pipe_nexts.specs.Lines.{line_form, line_pipe}
 use Rattle.pdl_pipe_locks.specs.Suited.{shapes_in}
 use Rattle.pdl_pipe_locks.specs.Lawful.{AreLawful}
-use Rattle.pdl_pipe_locks.specs.Stepped.{AreStepped}
+use Rattle.pdl_pipe_locks.specs.Stepped.{AreStepped, commits_in}
 use Rattle.pdl_pipe_locks.proofs.LockGrowth.{Stays}
 use Rattle.pdl_pipe_locks.proofs.Law.{BothFit}
 use Rattle.pdl_pipe_outputs.specs.declared.outputs.ShownNets.{ShownNets}
@@ -38,7 +38,7 @@ use Rattle.pdl_pipe.specs.Emitted.{AreShownOf, IsEmitted}
 use Rattle.pdl_pipe.proofs.MadeOutputs.{shown_made, ports_made, shapes_made}
 use Rattle.pdl_pipe.proofs.MadeRequests.{outside, request_one, fits_outside}
 
--- a circuit that keeps the law with these locks, whose steps have these nets: the widths of what it shows, the places and shapes of its arrays, and its locks
+-- a circuit that keeps the law with these locks, whose steps have these nets: the widths of what it shows, the places and shapes of its arrays, and its locks, whose commits it shows
 pub record KeepsLaw {T : Type 0} (l : Members T) (f : Form) (names : ℕ → List ℕ) (ls : Locks) (vs : ℕ → View) (gates : Gates) (moves : ℕ → Signal)
     (sides : Sides) (d : Circuit) (locks : List (Option (MemLock T))) (nets : List (Option LockNets)) : Type 1 where
   pub compiled : IsWhole f.pipe names ls vs gates moves sides d
@@ -50,6 +50,7 @@ pub record KeepsLaw {T : Type 0} (l : Members T) (f : Form) (names : ℕ → Lis
   pub locked : AreLocked l d f.pipe locks
   pub lawful : AreLawful l d f.pipe locks
   pub stepped : AreStepped l d f.pipe (step_of f.pipe vs gates moves) locks nets (length f.pipe.mems)
+  pub told : compiled.laid.commits ≡ commits_in d nets
 
 -- ---- of an emission
 
@@ -101,6 +102,7 @@ module _ {T : Type 0} (l : Members T) (stays : Stays l) (n : Nets T) (em : Emiss
         locked = locked_made l stays n em;
         lawful = lawful_made l stays n em;
         stepped = stepped_made l stays n em;
+        told = refl;
       })
 
 -- ---- of all nets of a form

@@ -13,8 +13,11 @@ use Rattle.pdl_net.specs.Signal.{Signal}
 use Rattle.pdl_net.specs.Well.{IsWell}
 use Rattle.pdl_law_parts.specs.Walk.{Locks}
 use Rattle.pdl_law_parts.specs.Views.{View, Gates}
+use Rattle.pdl_law_parts.specs.Ports.{Commits}
+use Rattle.pdl_law_parts.specs.Compiled.{shown_in}
 use Rattle.pdl_law_parts.specs.DeclaredMems.{mem_names}
 use Rattle.pdl_law_sides.specs.Sides.{Sides}
+use Rattle.pdl_law_sides.specs.WholeNetlist.{whole_shown}
 use Rattle.pdl_pipe_walk.specs.declared.locks.MemLock.{MemLock}
 use Rattle.pdl_pipe_walk.specs.Locked.{Members, locks_in}
 use Rattle.pdl_pipe_locks.proofs.LockGrowth.{Stays}
@@ -94,6 +97,13 @@ module _ {T : Type 0} (l : Members T) (stays : Stays l) (p : tree.Pipe) (n : Net
       stages = law.compiled.laid.stages;
       commits = emitted.nets.commits;
       stepped = law.stepped;
+      asks = law.compiled.asks;
+      outs = law.compiled.outs;
+      ports = law.compiled.ports;
+      shown =
+          subst
+          (λ (cs : ℕ → Commits). map (shown_in (circuit_of n)) law.compiled.outs ≡ whole_shown (flat p) (mem_names p.mems) cs law.compiled.asks vs gates moves)
+          law.told law.compiled.shown;
       alike = stages_made p rules source named ls vs gates moves sides n made;
       used = used_locks l p rules source named n (circuit_of n) locks law.locked.locked vs gates moves sides made;
     }
