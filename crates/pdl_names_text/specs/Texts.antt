@@ -1,6 +1,6 @@
 -- The text of a source's netlist with the names of its nets.
 use Rattle.std.specs.Prelude.{◌≡◌, ℕ, List, [], ◌∷◌, ◌++◌, flat_map, codes, decimal, Option, None}
-use Rattle.pdl_kit.specs.Files.{Held, Gives}
+use Rattle.pdl_system.specs.Files.{Held, Gives}
 use Rattle.pdl_semantics.specs.Tree.{Pipe}
 use Rattle.pdl_syntax_grammar.specs.Text.{IsText}
 use Rattle.pdl_rules.specs.Refusal.{refusal}

@@ -1,6 +1,6 @@
 // The text of a source's netlist with the names of its nets.
 ghost use Rattle.std.specs.Prelude.{◌≡◌, ◌≤◌, ◌++◌, IsTrue, IfOk, ℕ, List};
-ghost use Rattle.pdl_kit.specs.Files.{Gives};
+ghost use Rattle.pdl_system.specs.Files.{Gives};
 ghost use Rattle.pdl_syntax_tree.specs.View.{pipe_view};
 ghost use Rattle.pdl_net.specs.Pipe.{IsWellFormed};
 ghost use Rattle.pdl_vlog.specs.Layout.{verilog};
