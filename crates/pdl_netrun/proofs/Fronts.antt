@@ -29,7 +29,7 @@ front_more words first now k x d h l e f = record {
 pub front_all : (words first now : List ℕ) (k : ℕ) → length words ≤ k → IsFront words first now k → now ≡ put_at 0 first words
 front_all words first now k h f =
     let w = f.within in
-    let e : k ≡ length words = omega (arith, h, w) in
+    let e : k ≡ 0 + length words = omega (arith, h, w) in
     sym (take-append-drop k now) ∙ ap₂ (λ xs ys. xs ++ ys) (f.front ∙ take_all k words h) (f.rest ∙ ap (λ n. drop n first) e)
 
 pub ruleset fronts = (front_none, front_more, front_all)

@@ -1,5 +1,5 @@
 -- Lists of words of 64 bits, array by array.
-use Rattle.std.proofs.Common.{◌≡◌, ◌∙◌, sym, ap, ap₂, subst, ℕ, ◌+◌, ◌<◌, ◌≤◌, List, [], ◌∷◌, ◌++◌, length, get_or, take, map, All, Vec, Global, arith}
+use Rattle.std.proofs.Common.{◌≡◌, ◌∙◌, sym, ap, ap₂, subst, ℕ, ◌+◌, ◌<◌, ◌≤◌, List, [], ◌∷◌, ◌++◌, length, get_or, take, All, Vec, Global, arith}
 use Rattle.std.proofs.lemmas.List.{map-append, map_more, take_all}
 use Rattle.pdl_netrun.specs.Steps.{array_words}
 use Rattle.pdl_netrun.specs.Held.{AreSmall}

@@ -1,7 +1,8 @@
 -- The start of a simulator: registers have their reset values, and the list of values has constants.
-use Rattle.std.proofs.Common.{◌≡◌, ◌⊎◌, inl, inr, refl, sym, ap, ◌∙◌, subst, ℕ, zero, suc, ◌+◌, ◌^◌, ◌<◌, ◌≤◌, Option, Some, None, codes, List, [], ◌∷◌, ◌++◌, length, get_or, take, drop, map, replicate, All, arith, ◌-◌, length-append}
+use Rattle.std.proofs.Common.{◌≡◌, ◌⊎◌, inl, inr, refl, sym, ap, ◌∙◌, subst, ℕ, zero, suc, ◌+◌, ◌^◌, ◌<◌, ◌≤◌, Option, Some, None, codes, List, [], ◌∷◌, ◌++◌, length, get_or, take, drop, map, replicate, arith, ◌-◌, length-append}
 use Rattle.std.specs.Prelude.{slice_index}
 use Rattle.std.proofs.lemmas.List.{get_or-append_right, get_or-map, get_or_default, length-map, length-replicate}
+use Rattle.std.proofs.lemmas.List.Elements.{All-append}
 use Rattle.std.proofs.lemmas.Nat.{pow_pos}
 use Rattle.std.proofs.Math.Nat.{pow-le-pow_right}
 use Rattle.pdl_net.specs.declared.Cell.{Cell}

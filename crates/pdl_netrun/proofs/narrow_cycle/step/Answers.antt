@@ -1,5 +1,6 @@
 use Rattle.std.proofs.Common.{arith}
 use Rattle.std.proofs.lemmas.Grind.{common_steps}
+use Rattle.pdl_netrun.specs.Steps.{array_words}
 use Rattle.pdl_netrun.specs.Held.{lists_of}
 use Rattle.pdl_netrun.proofs.CycleParts.{put_room, walk_room, walk_fit, read_there, read_room, write_fit, cycled}
 use Rattle.pdl_netrun.proofs.narrow_cycle.step.Goals as goal
@@ -10,12 +11,12 @@ put_words-requires c =
 
 pub walk_runs-requires-clause-room : goal.walk_runs-requires-clause-room
 walk_runs-requires-clause-room c =
-    walk_room 64 c.args.plan.now c.args.inputs.now (lists_of c.args.lists.now) c.requires _ _ (grind (arith, common_steps)) (grind (arith, common_steps))
+    walk_room 64 c.args.plan.now c.args.inputs.now (lists_of c.args.lists.now) c.requires c.deref-2.result.now _ c.deref-2.ensures.value (grind (arith, common_steps))
 
 pub walk_runs-requires-clause-fit : goal.walk_runs-requires-clause-fit
 walk_runs-requires-clause-fit c =
-    walk_fit 64 c.args.plan.now c.args.inputs.now (lists_of c.args.lists.now) c.requires _ _ _
-    (grind (arith, common_steps)) (grind (arith, common_steps)) (grind (arith, common_steps))
+    walk_fit 64 c.args.plan.now c.args.inputs.now (lists_of c.args.lists.now) c.requires c.deref-2.result.now _ _
+    c.deref-2.ensures.value (grind (arith, common_steps)) (grind (arith, common_steps))
 
 pub read_places-requires-clause-there : goal.read_places-requires-clause-there
 read_places-requires-clause-there c =
@@ -32,6 +33,6 @@ write_words-requires c =
 
 pub returns : goal.returns
 returns c =
-    cycled c.args.plan.now c.args.inputs.now (lists_of c.args.lists.now) _ _ c.deref-4.result.now _ c.deref_mut-5.result.now c.deref-6.result.now
+    cycled c.args.plan.now c.args.inputs.now (lists_of c.args.lists.now) _ _ c.deref-4.result.now _ (array_words c.deref_mut-5.result.now) c.deref-6.result.now
     (grind (arith, common_steps)) c.deref-4.ensures.value (grind (arith, common_steps)) c.deref-6.ensures.value
     (grind (arith, common_steps)) (grind (arith, common_steps))

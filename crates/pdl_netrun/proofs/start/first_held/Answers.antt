@@ -1,12 +1,11 @@
-use Rattle.std.proofs.Common.{◌∙◌, ap, sym, subst, arith, ℕ, List}
-use Rattle.std.specs.Prelude.{IfOk}
+use Rattle.std.proofs.Common.{◌∙◌, ◌+◌, ap, sym, subst, arith, ℕ, List, length}
 use Rattle.std.proofs.lemmas.Grind.{common_steps}
 use Rattle.std.proofs.lemmas.Result.{IfOk-weaker}
 use Rattle.pdl_net.specs.declared.Netlist.{Netlist}
-use Rattle.pdl_net.specs.Circuit.{circuit_of}
+use Rattle.pdl_net.specs.Circuit.{circuit_of, inputs_of}
 use Rattle.pdl_netrun.specs.declared.held.HeldWords.{HeldWords}
 use Rattle.pdl_netrun.specs.Steps.{array_words}
-use Rattle.pdl_netrun.specs.Order.{IsOrder, first_place}
+use Rattle.pdl_netrun.specs.Order.{IsOrder}
 use Rattle.pdl_netrun.specs.Held.{ListsFit, bits_of}
 use Rattle.pdl_netrun.proofs.NarrowNets.{within_bits}
 use Rattle.pdl_netrun.proofs.Reset.{first_is, small_lists}
@@ -19,9 +18,9 @@ hold-requires c = λ t.
     let e = c.requires.net in
     let order = subst (λ (x : Netlist). IsOrder (circuit_of x) o.cells.items o.places.items) e c.requires.order.order in
     let h = c.requires.holds.reg_count in
-    let r = c.requires.order.regs ∙ ap (λ (x : Netlist). first_place (circuit_of x)) e in
-    let k = first_is o n c.in_ok-values.values.items c.put_constants.new.values.items _ e c.in_ok-put_constants.ensures
-    (grind (arith, common_steps)) (let l = c.len.ensures in grind (arith, common_steps, l, h)) in
+    let r = c.requires.order.regs ∙ ap (λ (x : Netlist). length (inputs_of (circuit_of x))) e in
+    let k = first_is o n c.in_ok-values.values.items c.put_constants.new.values.items (o.regs + c.len.result) e c.in_ok-put_constants.ensures
+    (grind (arith, common_steps)) (let l = c.len.ensures in grind (arith, common_steps, r, l, h)) in
     subst (λ (vs : List ℕ). ListsFit 64 (record { values = vs; arrays = array_words c.args.arrays.items; next = c.args.next.items })) (sym k)
     (small_lists 64 (circuit_of n) o.cells.items o.places.items c.args.next.items (array_words c.args.arrays.items) c.requires.well order c.requires.holds
     (c.is_narrow.ensures t))

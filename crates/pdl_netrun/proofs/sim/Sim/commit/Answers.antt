@@ -7,5 +7,7 @@ use Rattle.pdl_netrun.proofs.sim.Sim.commit.Goals as goal
 
 pub committed-requires : goal.committed-requires
 committed-requires c =
-    let a = addresses_now c.self.inside c.self.invariant c.args.m _ (grind (arith, common_steps)) (grind (arith, common_steps)) in
-    subst (λ (r : Run). value_at r.last.ports _ < 2 ^ 64) c.self.view_is a.0
+    let p = c.index.result.now in
+    let a =
+    addresses_now c.self.inside c.self.invariant c.args.m p (grind (arith, common_steps)) (let e = c.index.ensures in grind (arith, common_steps, e)) in
+    subst (λ (r : Run). value_at r.last.ports p.first.addr < 2 ^ 64) c.self.view_is a.0
