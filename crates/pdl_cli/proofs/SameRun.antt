@@ -1,5 +1,5 @@
 -- What `build` writes for a source runs as the source does.
-use Rattle.std.proofs.Common.{◌≡◌, ◌≢◌, ℕ, List, [], ◌∷◌, Option, Some, None, Result, Ok, Err, AllPairs, length, inl, inr, refl, sym, ap, subst, ◌∙◌, Bool}
+use Rattle.std.proofs.Common.{◌≡◌, ◌≢◌, ℕ, List, [], ◌∷◌, Option, Some, None, Result, Ok, Err, AllPairs, length, refl, sym, ap, subst, ◌∙◌, Bool}
 use Rattle.std.specs.Prelude.{◌↔◌}
 use Rattle.pdl_kit.specs.declared.mem_info.MemInfo.{MemInfo}
 use Rattle.pdl_kit.specs.declared.rule.Rule.{Rule}
@@ -50,8 +50,8 @@ taken_image : (mems : List MemInfo) (text : List ℕ) (words : List (List ℕ)) 
     → AllPairs (λ a b. a.name ≢ b.name) mems → image mems text ≡ Ok words → after_header (image_lines.lines text) ≡ o
     → IsImage mems words
 taken_image mems text words None distinct e f = let k = no_header mems text f in absurd (cc (e, k))
-taken_image mems text words (Some h) distinct e f =
-    taken_after mems text h.0 words h.1 (first_wrong h.0 mems [] 2 h.1) distinct e f refl
+taken_image mems text words (Some (ranged, rest)) distinct e f =
+    taken_after mems text ranged words rest (first_wrong ranged mems [] 2 rest) distinct e f refl
 
 -- ---- images in another order of memories
 

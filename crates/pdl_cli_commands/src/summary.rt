@@ -36,7 +36,7 @@ fn words_in(alloc: Global, words: &[Word], mem: &MemInfo) -> Result<Seq<Word>, N
 {
     let mut kept = Seq::new(alloc);
     for address in 0..mem.depth {
-        kept.push(cut_to(word_at(words, Word::from(address)), mem.width))?;
+        kept.push(cut_to(word_at(words, address as Word), mem.width))?;
     }
     Ok(kept)
 }

@@ -25,6 +25,6 @@ loop-address-preserved c =
       below = c.next-x-in-loop-address.ensures.below;
       words =
           c.in_ok-push.ensures.items
-          ∙ ap₂ (λ (l : List ℕ) (v : ℕ). l ++ v ∷ []) c.loop-address.invariant.words (c.byte_of.ensures ∙ ap (λ x. x / 65536 % 256) now)
+          ∙ ap₂ (λ (l : List ℕ) (v : ℕ). l ++ v ∷ []) c.loop-address.invariant.words (c.from-in-loop-address.ensures ∙ (c.byte_of.ensures ∙ ap (λ x. x / 65536 % 256) now))
           ∙ sym (map-range_with_len_more (λ j. byte n (j + 2)) 0 i i (omega arith));
     }
