@@ -4,8 +4,9 @@
     random_images.py PDL [IMAGES [SEED]]
 
 So many images of both kinds are made, and each is asked once more with a character changed, left out or said twice, a line
-moved or said twice, or the ends of its ranges exchanged. `pdl run` of a pipe that shows all words of its memories has to print what the model says, or to refuse
-the image by the rule and at the line that the model tells. IMAGES is 1000 and SEED is 1 where they aren't given.
+moved or said twice, or the ends of its ranges exchanged. `pdl run` of a pipe that shows all words of its memories has to
+print what the model says, or to refuse the image by the rule and at the line that the model tells. IMAGES is 1000 and SEED
+is 1 where they aren't given.
 """
 
 import pathlib

@@ -4,11 +4,13 @@
     random_operators.py PDL [PAIRS [SEED [TOOLS]]]
 
 For each width a pipe reads PAIRS pairs of words and writes what each operator makes of them, with slices, extensions and
-words side by side of random widths. PAIRS is a power of two, 64 where none is given. The first pairs are of corners: 0, 1,
-the greatest word, the middle of the range, and amounts of shifts about the width and about 64. What the program PDL prints
+words side by side of random widths. Up to 64 bits a second one has no wider word, as the program runs such netlists by
+words of that size. PAIRS is a power of two, 64 where none is given. The first pairs are of corners: 0, 1, the greatest
+word, the middle of the range, and amounts of shifts about the width, about 64, and just above 2^8, 2^32 and 2^64. Further
+pipes have one constant in place of the first word of all pairs, of the second one, and of each. What the program PDL prints
 by `run`, and by `sim` of what it builds, has to be what the model makes of each pair.
 Where TOOLS is 1, which is 0 where it isn't given, those of Icarus Verilog, Verilator and Yosys that are installed are asked
-too: the first two run the text that is built, and Icarus what Yosys makes of it.
+too, of the pipes without constants: the first two run the text that is built, and Icarus what Yosys makes of it.
 """
 
 import itertools
@@ -53,37 +55,54 @@ class Row:
         self.name, self.width, self.text, self.value = name, width, text, value
 
 
-def rows(chance, width):
-    """What is made of the pairs of a width."""
+def rows(chance, width, most):
+    """What is made of the pairs of a width, with so many bits at most."""
     found = [Row(name, width, text, value) for name, (text, value) in OF_ONE_WIDTH.items()]
     tests = "cat(cat(x == y, x != y), cat(x < y, lts(x, y)))"
     found.append(Row("tests", 4, tests, lambda x, y: joined(*(words.BINARY[it](x, y) for it in TESTS))))
     high, low = sorted((chance.randrange(width), chance.randrange(width)), reverse=True)
     found.append(Row("part", high - low + 1, f"x[{high}:{low}]", lambda x, y: words.part(x, high, low)))
-    left = chance.randint(1, min(width, words.WIDEST - 1))
-    right = chance.randint(1, min(width, words.WIDEST - left))
+    left = chance.randint(1, min(width, most - 1))
+    right = chance.randint(1, min(width, most - left))
     found.append(Row("beside", left + right, f"cat(x[{left - 1}:0], y[{width - 1}:{width - right}])",
                      lambda x, y: joined(words.part(x, left - 1, 0), words.part(y, width - 1, width - right))))
-    wide = chance.choice([width, words.WIDEST, chance.randint(width, words.WIDEST)])
+    wide = chance.choice([width, most, chance.randint(width, most)])
     found.append(Row("wider", wide, f"sext(x, {wide}) ^ zext(y, {wide})",
                      lambda x, y: words.BINARY["^"](words.extended(x, wide, True), words.extended(y, wide, False))))
     return found
 
 
-def source(width, bits, made):
-    """The pipe, whose n-th thread is of the n-th pair."""
+def source(width, bits, made, constants):
+    """The pipe, whose n-th thread is of the n-th pair; a constant that isn't None stands for the first or the second words."""
     inputs = [f"{name}: uint<{width}>[{1 << bits}] comb" for name in ("a", "b")]
     outputs = [f"{it.name}: uint<{it.width}>[{1 << bits}] comb lock queue(1)" for it in made]
     lines = [f"acquire({it.name}[n], W); {it.name}[n] <- {it.text}; release({it.name}[n]);" for it in made]
-    body = "\n".join(["x = a[n]; y = b[n];", *lines, f"call(n + {bits}'d1);"])
+    bound = [f"{name} = {f'{memory}[n]' if it is None else f'{width}{chr(39)}h{it:x}'};" for name, memory, it in zip("xy", "ab", constants)]
+    body = "\n".join([" ".join(bound), *lines, f"call(n + {bits}'d1);"])
     return f"pipe p(n: uint<{bits}>)\n[{', '.join(inputs + outputs)}] {{\n{body}\n}} start p({bits}'d0);\n"
+
+
+def corners_of(width):
+    """Words at the ends and in the middle of the range."""
+    most = (1 << width) - 1
+    return sorted({it & most for it in (0, 1, most, most - 1, most >> 1, (most >> 1) + 1)})
+
+
+def amounts_of(width):
+    """Amounts of shifts, those among them that are small once they are cut to 8, 32 or 64 bits."""
+    past = [(1 << it) + 1 for it in (8, 32, 64)]
+    return sorted({it for it in (width - 1, width, width + 1, 63, 64, 65, 127, *past) if it < 1 << width})
+
+
+def constants_of(chance, width):
+    """Pairs of words of which the first, the second or both are constants, and that are None where they aren't."""
+    some = [chance.choice(corners_of(width)), chance.choice(amounts_of(width)), chance.getrandbits(width)]
+    return [*((it, None) for it in some), *((None, it) for it in some), *itertools.product(some[:2], some[1:])]
 
 
 def pairs(chance, width, count):
     """Pairs of words, those of corners first in any order."""
-    most = (1 << width) - 1
-    corners = sorted({it & most for it in (0, 1, most, most - 1, most >> 1, (most >> 1) + 1)})
-    amounts = sorted({it for it in (width - 1, width, width + 1, 63, 64, 65, 127) if it <= most})
+    most, corners, amounts = (1 << width) - 1, corners_of(width), amounts_of(width)
     found = [*itertools.product(corners, corners), *((chance.getrandbits(width), it) for it in amounts)]
     chance.shuffle(found)
     while len(found) < count:
@@ -126,10 +145,11 @@ def others(module, folder):
         yield "Yosys", [["yosys", "-q", "-p", passes], *icarus("yosys.v")]
 
 
-def judged(program, width, count, chance, with_tools, folder):
-    """All that is wrong at a width, and how many words were compared."""
-    made, found = rows(chance, width), pairs(chance, width, count)
-    text = source(width, (count - 1).bit_length(), made)
+def judged(program, made, found, constants, with_tools, folder):
+    """All that is wrong of what is made of these pairs, and how many words were compared."""
+    width, count = found[0][0].width, len(found)
+    found = [tuple(it if k is None else Word(k, width) for it, k in zip(pair, constants)) for pair in found]
+    text = source(width, (count - 1).bit_length(), made, constants)
     image = "\n".join(["image 1", *(f"{name} {at} {it[k].value:x}" for at, it in enumerate(found) for k, name in enumerate("ab"))])
     wanted = lines_of(made, found)
     for name, content in (("source.pdl", text), ("image.img", image + "\n")):
@@ -168,11 +188,17 @@ def main():
     asked = wrong = 0
     with tempfile.TemporaryDirectory() as name:
         for width in range(1, words.WIDEST + 1):
-            found, compared = judged(program, width, count, random.Random(f"{seed} {width}"), with_tools, pathlib.Path(name))
-            asked += compared
-            wrong += len(found)
-            for it in found:
-                print(it)
+            chance = random.Random(f"{seed} {width}")
+            given = pairs(chance, width, count)
+            widest = [it for it in (64, words.WIDEST) if width <= it]
+            calls = [(most, given, (None, None), with_tools) for most in widest]
+            calls += [(chance.choice(widest), given[:8], it, 0) for it in constants_of(chance, width)]
+            for most, some, constants, asks_tools in calls:
+                found, compared = judged(program, rows(chance, width, most), some, constants, asks_tools, pathlib.Path(name))
+                asked += compared
+                wrong += len(found)
+                for it in found:
+                    print(it)
     print(f"words {asked} wrong {wrong}")
     return 1 if wrong else 0
 

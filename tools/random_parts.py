@@ -56,9 +56,9 @@ class Memory:
         self.name = f"{'d' if delayed else 'q' if advisory else 'm'}{number}"
         self.delayed, self.advisory = delayed, advisory
         self.width = random.choice([1, 4, 8, 8, 16, 65, 128])
-        self.address = random.choice([1, 1, 2, 2, 3])
+        self.address = random.choice([1, 1, 2, 2, 3, 4])
         self.lock = random.choice(["queue"] if delayed else ["queue", "bypass", "rename"]) if locked else None
-        self.size = min(random.choice([1, 2, 4, 4, 8]), 1 << self.address if self.lock == "rename" else 8)
+        self.size = min(random.choice([1, 2, 4, 4, 8, 16]), 1 << self.address if self.lock == "rename" else 16)
         # Of a hot memory all threads use one word mostly.
         self.hot = random.random() < (0.5 if advisory else 0.25)
 

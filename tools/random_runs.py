@@ -318,6 +318,7 @@ class Comparison:
         """Whether an answer differs; then it is told."""
         found = differences(self.program, self.forms, (source, image, delays), cycles, threads, self.folder)
         self.done[f"{kind} refused" if found is None else kind] += 1
+        self.done.update(f"{kind} with {it}" for it in ([] if found is None else forms_in(rules.checked(source, self.forms))))
         if found:
             print(f"{', '.join(found)}:\n{source}\nimage:\n{image}\ndelays:\n{delays}")
         return bool(found)

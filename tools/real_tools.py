@@ -1,10 +1,10 @@
 #!/usr/bin/env python3
 """Asks Icarus Verilog, Verilator and Yosys about the Verilog that `pdl build` writes.
 
-    real_tools.py PDL [PIPES [SEED]]
+    real_tools.py PDL [PIPES [SEED]] [--forms FORMS]
 
 PDL is the program. The pipe of each run of examples/ and PIPES random ones of the whole language (200 where none is
-given) are built. Each text is read by those of `iverilog -g2005 -Wall`, `verilator --lint-only -Wall` and `yosys check`
+given) are built. FORMS are those that the random ones have some of, as random_runs.py takes them. Each text is read by those of `iverilog -g2005 -Wall`, `verilator --lint-only -Wall` and `yosys check`
 that are installed; they have to say nothing.
 Then Icarus runs it in a test bench that answers the delayed memories as a random delay file says and shows all ports in
 each cycle. No port may be unknown, and each is that of the machine of tools/pdl_model; the commits, the waits, the ended
@@ -17,10 +17,12 @@ import re
 import shutil
 import subprocess
 import tempfile
+from collections import Counter
 
 import usage
 from pdl_model import files, rules
-from pdl_model.forms import TAKEN
+from pdl_model.forms import out_of
+from random_runs import forms_in
 from random_whole import RandomPipe, random_features, random_forms
 
 EXAMPLES = pathlib.Path(__file__).resolve().parent.parent / "examples"
@@ -230,12 +232,12 @@ def examples():
             yield " ".join(words[2:4]), (EXAMPLES / words[2]).read_text(), (EXAMPLES / words[3]).read_text(), ""
 
 
-def random_pipes(program, count, seed, folder):
-    """Random pipes that the program accepts."""
+def random_pipes(program, count, seed, taken, folder):
+    """Random pipes with some of these forms that the program accepts."""
     made, number = 0, 0
     while made < count:
         chance = random.Random(f"{seed} {number}")
-        forms = random_forms(chance, TAKEN)
+        forms = random_forms(chance, taken)
         pipe = RandomPipe(chance, random_features(chance, forms), forms)
         source = pipe.source()
         (folder / "maybe.pdl").write_text(source)
@@ -246,21 +248,25 @@ def random_pipes(program, count, seed, folder):
 
 
 def main():
-    given = usage.words(__doc__, 1, 3)
+    given, taken = out_of(usage.words(__doc__, 1, 5))
+    if taken is None or not 1 <= len(given) <= 3:
+        usage.ends("it takes PDL [PIPES [SEED]] [--forms FORMS], with forms that there are")
     program = usage.program(given[0])
     count, seed = map(usage.number, given[1:] + ["200", "1"][len(given) - 1 :])
     asked = wrong = 0
+    counts = Counter()
     for words in (["iverilog", "-V"], ["verilator", "--version"], ["yosys", "-V"]):
         print(said(words, ".")[1].splitlines()[0] if shutil.which(words[0]) else f"{words[0]} is not installed")
     with tempfile.TemporaryDirectory() as name:
         folder = pathlib.Path(name)
-        for what, source, image, delays in [*examples(), *random_pipes(program, count, seed, folder)]:
+        for what, source, image, delays in [*examples(), *random_pipes(program, count, seed, taken, folder)]:
             asked += 1
+            counts.update(forms_in(rules.checked(source)))
             found = judged(program, source, image, delays, CYCLES, folder)
             wrong += bool(found)
             for it in found:
                 print(f"{what}: {it}")
-    print(f"pipes {asked} wrong {wrong}")
+    print(f"pipes {asked}" + "".join(f", with {form} {number}" for form, number in sorted(counts.items())) + f", wrong {wrong}")
     return 1 if wrong else 0
 
 
