@@ -17,3 +17,4 @@ pub mod MadeNames
 pub mod NamedParts
 pub mod KeptNames
 pub mod KeptPlaces
+pub mod PlaceRows
