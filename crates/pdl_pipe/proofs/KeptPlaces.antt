@@ -49,7 +49,7 @@ module _ (bits m base depth : ℕ) (s : State) (es : List Pending) (ws : List �
     (h : HasPlaces bits m s (lock_state_of base es ws)) (deep : 2 ^ bits ≡ depth)
     (same : (a : ℕ) → a < depth → row a ≡ slice_index ws a) where
   -- the place of an address, and behind the addresses that of a pending write
-  place : ℕ → ℕ
+  abbrev place : ℕ → ℕ
   place i = if nat_lt i depth then h.word i else h.value (i - depth)
 
   counted : length (forgotten_entries es) ≡ length es
@@ -65,8 +65,12 @@ module _ (bits m base depth : ℕ) (s : State) (es : List Pending) (ws : List �
   within i l = at (cases_lt i depth)
     where
       at : (i < depth) ⊎ (depth ≤ i) → place i < length (slice_index_or s.arrays m [])
-      at (inl low) = let w = h.word_in i (omega (arith, low, deep)) in omega (arith, w, of_word i low, h.depth)
-      at (inr high) = let w = h.value_in (i - depth) (omega (arith, l, high, counted)) in omega (arith, w, of_value i high, h.depth)
+      at (inl low) =
+          let w = h.word_in i (omega (arith, low, deep)) in
+          subst (λ n. n < length (slice_index_or s.arrays m [])) (sym (of_word i low)) (omega (arith, w, h.depth))
+      at (inr high) =
+          let w = h.value_in (i - depth) (omega (arith, l, high, counted)) in
+          subst (λ n. n < length (slice_index_or s.arrays m [])) (sym (of_value i high)) (omega (arith, w, h.depth))
 
   apart : (i j : ℕ) → i < depth + length es → j < depth + length es → place i ≡ place j → i ≡ j
   apart i j l k e = at (cases_lt i depth) (cases_lt j depth)
