@@ -24,7 +24,7 @@ use Rattle.pdl_law_follows.specs.Promised.{IsRunOf}
 use Rattle.pdl_law_follows.proofs.FollowsMade.{declared}
 use Rattle.pdl_law_follows.proofs.Images.{same_image}
 use Rattle.pdl_law_follows.proofs.Sequential.{refines, runs}
-use Rattle.pdl_pipe.specs.Locks.{HasLocksOf, any_lock}
+use Rattle.pdl_pipe.specs.KeptPlaces.{KeepsPlaces}
 use Rattle.pdl_vlog.specs.Layout.{verilog}
 use Rattle.pdl_vread.specs.Reads.{Reads}
 use Rattle.pdl_netrun_wave.specs.Dumped.{run_dump}
@@ -121,9 +121,9 @@ module _ (b : List ℕ) (p : Pipe) (n : Netlist) (accepted : IsAccepted b p) (fo
         }
 
     -- the dump of the netlist is the source's
-    pub is_dumped : HasLocksOf any_lock p n → cycles ≤ 1000000
+    pub is_dumped : KeepsPlaces p n → cycles ≤ 1000000
         → IsDumped b begun.image_text cycles begun.replies.texts (run_dump n words (schedule rows cycles))
-    is_dumped locks few = record {
+    is_dumped places few = record {
       pipe = p;
       words = in_order (flat p) words;
       loaded = loaded begun.image_text words begun.taken;
@@ -132,7 +132,7 @@ module _ (b : List ℕ) (p : Pipe) (n : Netlist) (accepted : IsAccepted b p) (fo
       netlist = n;
       follows = follows;
       writes = writes b p n accepted follows;
-      locks = locks;
+      places = places;
       start = words;
       started = record { fits = begun.fits; ordered = refl };
       dumped = refl;
@@ -142,14 +142,14 @@ module _ (b : List ℕ) (p : Pipe) (n : Netlist) (accepted : IsAccepted b p) (fo
     }
 
   -- the netlist's text is what is built of the source
-  pub is_built : (text : List ℕ) → HasLocksOf any_lock p n → text ≡ verilog n → Reads text n → IsBuilt b text
-  is_built text locks written read = record {
+  pub is_built : (text : List ℕ) → KeepsPlaces p n → text ≡ verilog n → Reads text n → IsBuilt b text
+  is_built text places written read = record {
     pipe = p;
     accepted = accepted;
     netlist = n;
     follows = follows;
     writes = writes b p n accepted follows;
-    locks = locks;
+    places = places;
     written = written;
     read = read;
     runs = promised b p n accepted follows;

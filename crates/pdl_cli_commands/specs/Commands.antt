@@ -22,7 +22,7 @@ use Rattle.pdl_law_follows.specs.Memories.{replies_in}
 use Rattle.pdl_law_follows.specs.Follows.{Follows}
 use Rattle.pdl_law_follows.specs.Refined.{RefinesThreads}
 use Rattle.pdl_law_follows.specs.Promised.{IsRunOf}
-use Rattle.pdl_pipe.specs.Locks.{HasLocksOf, any_lock}
+use Rattle.pdl_pipe.specs.KeptPlaces.{KeepsPlaces}
 use Rattle.pdl_image.specs.Images.{IsImage, image}
 use Rattle.pdl_image.specs.declared.file_error.FileError.TheVariants as file
 use Rattle.pdl_vlog.specs.Layout.{verilog}
@@ -152,8 +152,8 @@ pub record IsBuilt (source : List ℕ) (text : List ℕ) : Type 0 where
   pub follows : Follows pipe netlist
   -- it writes what the threads write that run one after another, from each image with each schedule
   pub writes : RefinesThreads pipe netlist
-  -- its memories have the locks that the pipe asks for, without what nothing needs
-  pub locks : HasLocksOf any_lock pipe netlist
+  -- the array of each renaming lock holds the words and the pending writes at different places, in each cycle of each run
+  pub places : KeepsPlaces pipe netlist
   -- the text is that of the netlist, byte for byte, and reads as it
   pub written : text ≡ verilog netlist
   pub read : Reads text netlist
@@ -179,9 +179,9 @@ pub record IsDumped (source image' : List ℕ) (cycles : ℕ) (delays : List (Li
   -- the netlist has the ports, memories and arrays of the pipe, and each port in each cycle the machine's value, for each image and schedule
   pub netlist : Netlist
   pub follows : Follows pipe netlist
-  -- it writes what the threads write that run one after another, and has the locks that the pipe asks for
+  -- it writes what the threads write that run one after another, and the arrays of its renaming locks hold words and pending writes at different places
   pub writes : RefinesThreads pipe netlist
-  pub locks : HasLocksOf any_lock pipe netlist
+  pub places : KeepsPlaces pipe netlist
   pub start : List (List ℕ)
   pub started : AreWordsOf pipe netlist words start
   -- the text is the dump of the netlist's run, byte for byte

@@ -6,7 +6,7 @@ ghost use Rattle.pdl_semantics.specs.Tree.{Pipe as pipes};
 ghost use Rattle.pdl_syntax_tree.specs.View.{pipe_view};
 ghost use Rattle.pdl_net.specs.Pipe.{IsWellFormed};
 ghost use Rattle.pdl_law_follows.specs.Follows.{Follows};
-ghost use Rattle.pdl_pipe.specs.Locks.{HasLocksOf, any_lock};
+ghost use Rattle.pdl_pipe.specs.KeptPlaces.{KeepsPlaces};
 ghost use Rattle.pdl_image.specs.Images.{IsImage};
 ghost use Rattle.pdl_cli_args.specs.Line as command;
 ghost use Rattle.pdl_cli_args.specs.View.{text_of};
@@ -67,7 +67,7 @@ fn dump_netlist<F: Files, O: Sink>(
     requires dumpable { CanBeDumped netlist.now }
     requires few { cycles ≤ 1000000 }
     ensures explained { (source b : List ℕ) (p : pipes) → IsAccepted b p
-        → Follows p netlist.now → HasLocksOf any_lock p netlist.now
+        → Follows p netlist.now → KeepsPlaces p netlist.now
         → Since (F.answers files.old) (F.answers files.new) (λ reads. Explains
         (Some (command.wave source image.now cycles (text_of delays.entry)))
         (seen_of (gave source b ∷ reads) (F.faults files.old) (F.faults files.new)

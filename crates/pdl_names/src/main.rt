@@ -6,10 +6,10 @@
 ghost use Rattle.std.specs.Prelude.{ℕ, List, IsTrue};
 
 use pdl_cli_failure::{Failure, report, status_of};
-use pdl_kit::files::Files;
 use pdl_kit::sink::{Sink, write_whole};
-use pdl_kit::{RealFiles, StdSink};
 use pdl_names_text::named_text;
+use pdl_system::files::Files;
+use pdl_system::{RealFiles, StdSink};
 use std::alloc::Global;
 use std::process::ExitCode;
 
@@ -25,7 +25,7 @@ fn words(rt: &HostRuntime) -> Result<Vec<String>, Failure> {
     }
 }
 
-// Writes what is written for the source that the one word names.
+// Reads the source that the one word names, and writes its netlist with the names of its nets.
 fn obey<F: Files, O: Sink>(
     alloc: Global,
     words: &Vec<String>,
@@ -37,7 +37,8 @@ fn obey<F: Files, O: Sink>(
     if words.len() != 1 {
         return Err(Failure::Usage);
     }
-    let text = named_text(alloc, files, words[0].as_str())?;
+    let source = files.read(words[0].as_str())?;
+    let text = named_text(alloc, source.as_slice())?;
     write_whole(out, text.as_slice())?;
     Ok(())
 }

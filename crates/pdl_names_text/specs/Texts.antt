@@ -1,6 +1,5 @@
 -- The text of a source's netlist with the names of its nets.
-use Rattle.std.specs.Prelude.{◌≡◌, ℕ, List, [], ◌∷◌, ◌++◌, flat_map, codes, decimal, Option, None}
-use Rattle.pdl_system.specs.Files.{Held, Gives}
+use Rattle.std.specs.Prelude.{◌≡◌, ℕ, List, [], ◌∷◌, ◌++◌, flat_map, codes, decimal, None}
 use Rattle.pdl_semantics.specs.Tree.{Pipe}
 use Rattle.pdl_syntax_grammar.specs.Text.{IsText}
 use Rattle.pdl_rules.specs.Refusal.{refusal}
@@ -66,10 +65,8 @@ pub record IsAccepted (source : List ℕ) (p : Pipe) : Type 0 where
   pub text : IsText source p
   pub kept : refusal source p ≡ None
 
--- what is written for a source with this name
-pub record IsNamed (holds : Option Held) (source text : List ℕ) : Type 0 where
+-- what is written for a source
+pub record IsNamed (source text : List ℕ) : Type 0 where
   pub pipe : Pipe
-  pub source_text : List ℕ
-  pub source_given : Gives holds source source_text
-  pub accepted : IsAccepted source_text pipe
+  pub accepted : IsAccepted source pipe
   pub written : IsNamedText pipe text

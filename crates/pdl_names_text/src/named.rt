@@ -1,6 +1,5 @@
 // The text of a source's netlist with the names of its nets.
-ghost use Rattle.std.specs.Prelude.{◌≡◌, ◌≤◌, ◌++◌, IsTrue, IfOk, ℕ, List};
-ghost use Rattle.pdl_system.specs.Files.{Gives};
+ghost use Rattle.std.specs.Prelude.{◌≡◌, ◌≤◌, ◌++◌, IfOk, ℕ, List, length};
 ghost use Rattle.pdl_syntax_tree.specs.View.{pipe_view};
 ghost use Rattle.pdl_net.specs.Pipe.{IsWellFormed};
 ghost use Rattle.pdl_vlog.specs.Layout.{verilog};
@@ -12,7 +11,6 @@ use pdl_check::Accepted;
 use pdl_check::check::check;
 use pdl_cli_failure::{Failure, in_memory};
 use pdl_kit::NoMemory;
-use pdl_kit::files::Files;
 use pdl_pipe::{NamedNetlist, compile_named};
 use pdl_verilog::verilog_text;
 use std::alloc::Global;
@@ -41,28 +39,12 @@ fn text_of(alloc: Global, accepted: &Accepted) -> Result<Vec<u8>, NoMemory>
     text
 }
 
-// Reads and checks a source.
-fn accept<F: Files>(alloc: Global, files: &mut F, name: &str) -> Result<Accepted, Failure>
-    requires { IsTrue (F.may files.old name.now) }
-    ensures ok { IfOk result (λ a. (b : List ℕ) × Gives (F.holds files.old) name.now b
-        × IsAccepted b (pipe_view a.typed.pipe)) }
-    ensures held { F.holds files.new ≡ F.holds files.old }
-    ensures allowed { (n : List ℕ) → F.may files.new n ≡ F.may files.old n }
-    ensures later { F.faults files.old ≤ F.faults files.new }
+/// The text of the netlist of a source of at most 268,435,456 bytes, and below it what its nets stand for.
+pub fn named_text(alloc: Global, source: &[u8]) -> Result<Vec<u8>, Failure>
+    requires { length source.now ≤ 268435456 }
+    ensures { IfOk result (λ t. IsNamed source.now t.items) }
 {
-    let source = files.read(name)?;
-    Ok(check(alloc, source.as_slice())?)
-}
-
-/// What is written for a source with this name.
-pub fn named_text<F: Files>(alloc: Global, files: &mut F, source: &str) -> Result<Vec<u8>, Failure>
-    requires { IsTrue (F.may files.old source.now) }
-    ensures ok { IfOk result (λ t. IsNamed (F.holds files.old) source.now t.items) }
-    ensures held { F.holds files.new ≡ F.holds files.old }
-    ensures allowed { (n : List ℕ) → F.may files.new n ≡ F.may files.old n }
-    ensures later { F.faults files.old ≤ F.faults files.new }
-{
-    let accepted = accept(alloc, files, source)?;
+    let accepted = check(alloc, source)?;
     let text = in_memory(text_of(alloc, &accepted));
     drop(accepted);
     text

@@ -27,7 +27,7 @@ use Rattle.pdl_pipe.specs.Names.{value_after, IsShown, IsName, names_kept, AreAl
 
 module _ (k : Choice) (n : Netlist) (h : IsClosed (circuit_of n) k) (well : IsWell (circuit_of n)) where
   -- a netlist and its needed part hold the same after a schedule, but for the registers that aren't kept
-  held_same : (a b : Held) (schedule : List ℕ) → IsSameHeld k a b → IsSameHeld k (held_after n a schedule) (held_after (pruned k n) b schedule)
+  pub held_same : (a b : Held) (schedule : List ℕ) → IsSameHeld k a b → IsSameHeld k (held_after n a schedule) (held_after (pruned k n) b schedule)
   held_same a b [] t = t
   held_same a b (bits ∷ schedule) t = held_same (next n a bits) (next (pruned k n) b bits) schedule (next_same k n h well a b bits t)
 

@@ -16,3 +16,5 @@ pub mod ShownNames
 pub mod MadeNames
 pub mod NamedParts
 pub mod KeptNames
+pub mod KeptPlaces
+pub mod PlaceRows

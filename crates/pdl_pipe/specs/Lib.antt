@@ -1,4 +1,5 @@
 pub mod Locks
+pub mod KeptPlaces
 pub mod Infos
 pub mod Emitted
 pub mod Names

@@ -14,6 +14,7 @@ ghost use Rattle.pdl_law_follows.specs.Refined.{RefinesThreads, MovesOldest, End
 ghost use Rattle.pdl_law_follows.specs.Promised.{IsRunOf};
 ghost use Rattle.pdl_image.specs.Images.{IsImage};
 ghost use Rattle.pdl_pipe.specs.Infos.{is_told};
+ghost use Rattle.pdl_pipe.specs.KeptPlaces.{KeepsPlaces};
 ghost use Rattle.pdl_pipe.specs.Locks.{HasLocks, HasLocksOf, any_lock};
 ghost use Rattle.pdl_pipe.specs.Names.{names_kept, AreAllNames, AreNames};
 
@@ -121,6 +122,7 @@ fn needed_with<L: LockModule + Copy>(
     ensures follows { IfOk result (λ y. Follows (pipe_view accepted.now.typed.pipe) y.netlist) }
     ensures locks { IfOk result (λ y.
         HasLocksOf (members L.LockModule) (pipe_view accepted.now.typed.pipe) y.netlist) }
+    ensures places { IfOk result (λ y. KeepsPlaces (pipe_view accepted.now.typed.pipe) y.netlist) }
     ensures names { IfOk result (λ y.
         AreNames (pipe_view accepted.now.typed.pipe) y.netlist y.names.items) }
     ensures needed { IfOk result (λ y. AllNeeded (circuit_of y.netlist)) }
@@ -134,7 +136,7 @@ fn needed_with<L: LockModule + Copy>(
     Ok(NamedNetlist { netlist, names })
 }
 
-/// The netlist of an accepted pipe, without what nothing needs, equal cells, or cells that could be constants: it follows the pipe, and each memory with a lock has the lock that it asks for. So from each image and with each schedule of replies it writes what the threads write that run one after another, its oldest thread moves in each cycle that leaves no request unanswered, and enough threads end; and what advisory memories hold changes none of these writes, nor do updates. With it come the names of its registers and of cells: what each shows of the machine's threads in each cycle. The error is that memory ran out.
+/// The netlist of an accepted pipe, without what nothing needs, equal cells, or cells that could be constants: it follows the pipe, and each memory with a lock has the lock that it asks for. So the array of a renaming lock holds words and pending writes at different places, and from each image and with each schedule of replies it writes what the threads write that run one after another, its oldest thread moves in each cycle that leaves no request unanswered, and enough threads end; and what advisory memories hold changes none of these writes, nor do updates. With it come the names of its registers and of cells: what each shows of the machine's threads in each cycle. The error is that memory ran out.
 pub fn compile_named(alloc: Global, accepted: &Accepted) -> Result<NamedNetlist, NoMemory>
     ensures follows { IfOk result (λ y. Follows (pipe_view accepted.now.typed.pipe) y.netlist) }
     ensures writes { IfOk result (λ y.
@@ -147,6 +149,7 @@ pub fn compile_named(alloc: Global, accepted: &Accepted) -> Result<NamedNetlist,
         → IsRunOf (pipe_view accepted.now.typed.pipe) y.netlist image schedule) }
     ensures locks { IfOk result (λ y.
         HasLocksOf any_lock (pipe_view accepted.now.typed.pipe) y.netlist) }
+    ensures places { IfOk result (λ y. KeepsPlaces (pipe_view accepted.now.typed.pipe) y.netlist) }
     ensures names { IfOk result (λ y.
         AreNames (pipe_view accepted.now.typed.pipe) y.netlist y.names.items) }
     ensures needed { IfOk result (λ y. AllNeeded (circuit_of y.netlist)) }
@@ -168,6 +171,7 @@ pub fn compile(alloc: Global, accepted: &Accepted) -> Result<Netlist, NoMemory>
     ensures runs { IfOk result (λ n. (image : List (List ℕ)) (schedule : List ℕ) → IsImage n.mems image →
         IsRunOf (pipe_view accepted.now.typed.pipe) n image schedule) }
     ensures locks { IfOk result (λ n. HasLocksOf any_lock (pipe_view accepted.now.typed.pipe) n) }
+    ensures places { IfOk result (λ n. KeepsPlaces (pipe_view accepted.now.typed.pipe) n) }
     ensures needed { IfOk result (λ n. AllNeeded (circuit_of n)) }
     ensures different { IfOk result (λ n. AllPairs (λ a b. a ≢ b) n.cells) }
     ensures folded { IfOk result (λ n. AreFolded n.cells) }

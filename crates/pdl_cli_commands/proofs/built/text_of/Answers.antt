@@ -16,5 +16,5 @@ returns c =
     let n = c.in_ok-netlist in
     both_ok c.verilog_text-text.result _ _ _
     (λ t text reads source accepted. is_built source
-    (pipe_view c.args.accepted.now.typed.pipe) n.netlist accepted n.ensures.follows t.items n.ensures.locks text reads)
+    (pipe_view c.args.accepted.now.typed.pipe) n.netlist accepted n.ensures.follows t.items n.ensures.places text reads)
     c.verilog_text-text.ensures.text c.verilog_text-text.ensures.reads

@@ -17,7 +17,7 @@ dump_netlist-requires-clause-dumpable g c =
 
 pub returns-in-Ok-clause-explained : goal.returns-in-Ok-clause-explained
 returns-in-Ok-clause-explained g c = λ source b taken.
-    c.dump_netlist.ensures.explained source b (pipe_view c.args.accepted.now.typed.pipe) taken c.in-Ok.ensures.follows c.in-Ok.ensures.locks
+    c.dump_netlist.ensures.explained source b (pipe_view c.args.accepted.now.typed.pipe) taken c.in-Ok.ensures.follows c.in-Ok.ensures.places
 
 pub returns-in-Err-clause-explained : goal.returns-in-Err-clause-explained
 returns-in-Err-clause-explained g c = λ source b taken.

@@ -14,7 +14,7 @@ use Rattle.pdl_cli_commands.proofs.BegunRuns.{begun_explains}
 use Rattle.pdl_cli_commands.proofs.dumped.dump_netlist.Goals as goal
 
 pub returns-in-Ok-clause-explained : goal.returns-in-Ok-clause-explained
-returns-in-Ok-clause-explained g c = λ source b p accepted follows locks.
+returns-in-Ok-clause-explained g c = λ source b p accepted follows places.
     let old = g.F.Files.answers c.args.files.now in
     let new = g.F.Files.answers c.start_of.new.files in
     let image' = c.args.image.now in
@@ -30,10 +30,10 @@ returns-in-Ok-clause-explained g c = λ source b p accepted follows locks.
     (g.O.Sink.written c.print_dump.new.out) (g.O.Sink.faults c.args.out.now) (g.O.Sink.faults c.print_dump.new.out) c.print_dump.result
     (λ t. t ≡ run_dump n start.image (schedule start.delays cycles))
     (λ t is. subst (IsDumped b begun.image_text cycles begun.replies.texts) (sym is)
-    (is_dumped b p n accepted follows old new image' delays start.image start.delays begun cycles locks c.requires.few)) c.print_dump.ensures.text
+    (is_dumped b p n accepted follows old new image' delays start.image start.delays begun cycles places c.requires.few)) c.print_dump.ensures.text
 
 pub returns-in-Err-clause-explained : goal.returns-in-Err-clause-explained
-returns-in-Err-clause-explained g c = λ source b p accepted follows locks.
+returns-in-Err-clause-explained g c = λ source b p accepted follows places.
     let old = g.F.Files.answers c.args.files.now in
     let new = g.F.Files.answers c.start_of.new.files in
     let before = g.F.Files.faults c.args.files.now in

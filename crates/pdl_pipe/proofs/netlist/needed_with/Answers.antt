@@ -2,11 +2,13 @@ use Rattle.std.proofs.Common.{List, sym, ap, ◌∙◌, subst}
 use Rattle.pdl_word.specs.Each.{Each}
 use Rattle.pdl_syntax_tree.specs.View.{pipe_view}
 use Rattle.pdl_net_needed.specs.Marks.{IsWithin}
+use Rattle.pdl_pipe_walk.specs.Locked.{members}
 use Rattle.pdl_pipe.specs.declared.names.NamedNet.{NamedNet}
 use Rattle.pdl_pipe.specs.Names.{names_kept}
 use Rattle.pdl_pipe.proofs.NeededPart.{needed_follows}
 use Rattle.pdl_pipe.proofs.NeededFolded.{needed_folded}
 use Rattle.pdl_pipe.proofs.KeptNames.{are_names, names_within}
+use Rattle.pdl_pipe.proofs.KeptPlaces.{places_of}
 use Rattle.pdl_pipe.proofs.netlist.needed_with.Goals as goal
 
 pub needed-requires : goal.needed-requires
@@ -33,6 +35,16 @@ returns-clause-locks g c = record {
   locks = c.in_ok-whole.ensures.locks;
   part = record { kept = c.in_ok-kept.kept; needed = c.in_ok-kept.ensures; same = c.in_ok-netlist.ensures.same };
 }
+
+pub returns-clause-places : goal.returns-clause-places
+returns-clause-places g c =
+    places_of (members g.L.LockModule) (pipe_view c.args.accepted.now.typed.pipe) c.in_ok-netlist.netlist
+    (record {
+      whole = c.in_ok-whole.whole.netlist;
+      locks = c.in_ok-whole.ensures.locks;
+      part = record { kept = c.in_ok-kept.kept; needed = c.in_ok-kept.ensures; same = c.in_ok-netlist.ensures.same };
+    })
+    c.in_ok-whole.ensures.follows.well_formed.well
 
 pub returns-clause-names : goal.returns-clause-names
 returns-clause-names g c =
