@@ -4,14 +4,17 @@ use Rattle.pdl_cli_failure.proofs.InMemory.{made_so}
 use Rattle.pdl_names_text.proofs.named.named_text.Goals as goal
 
 pub text_of-requires : goal.text_of-requires
-text_of-requires g c = (c.args.source.now, c.in_ok-accepted.ensures)
+text_of-requires c =
+    let a = c.in_ok-accepted.ensures in
+    (c.args.source.now, record { text = a.found; kept = a.kept })
 
 pub returns : goal.returns
-returns g c =
+returns c =
+    let a = c.in_ok-accepted.ensures in
     IfOk-weaker c.in_memory-text.result _ _
     (λ t written. record {
       pipe = pipe_view c.in_ok-accepted.accepted.typed.pipe;
-      accepted = c.in_ok-accepted.ensures;
+      accepted = record { text = a.found; kept = a.kept };
       written = written;
     })
     (made_so c.text_of.result c.in_memory-text.result _ c.in_memory-text.ensures.ok c.text_of.ensures)
