@@ -80,7 +80,7 @@ const WORDS: [(&[u8], &[TokenKind]); 2] = [
     ),
 ];
 
-const NUMBERS: [(&[u8], &[TokenKind]); 6] = [
+const NUMBERS: [(&[u8], &[TokenKind]); 8] = [
     (
         b"00 9999999999 10000000000",
         &[TokenKind::Number(0), TokenKind::Number(9_999_999_999), BAD],
