@@ -4,7 +4,7 @@
     riscv_board.py PDL [--write]
 
 PDL is the program. It needs what examples/riscv/board/board.py does: yosys, nextpnr-ice40 and icestorm. Each core has the
-words of sha256_O2. Its clock by nextpnr is the mean over six seeds, and that by icetime is of the first. The last columns are
+words of sha256_O2. Its clock by nextpnr is the mean over three seeds, and that by icetime is of the first. The last columns are
 the cycle in which the first word of the digest is written, and how long that is by nextpnr's clock. As many cores are made at a
 time as there are processors: under `taskset -c 0` one. With --write the table is put into the page.
 """
@@ -24,7 +24,7 @@ from riscv_cores import CORES, OPERANDS, VERIFY_LATER, put_table
 sys.path.insert(0, str(CORES / "board"))
 import board
 
-PLACE, SEEDS = 357, (1, 2, 3, 4, 5, 6)
+PLACE, SEEDS = 357, (1, 2, 3)
 IMAGE = CORES / "images" / "sha256_O2.img"
 ROWS = (  # what the table says, a core of board.py, and what is changed in its source
     ("`rv32i`", "rv32i", None),
@@ -34,7 +34,6 @@ ROWS = (  # what the table says, a core of board.py, and what is changed in its 
     ("`rv32i_delayed`", "rv32i_delayed", None),
     ("`rv32i_update`", "rv32i_update", None),
     ("`rv32i_btb`", "rv32i_btb", None),
-    ("`rv32im`", "rv32im", None),
     ("`rv32i_traps`", "rv32i_traps", None),
     ("`rv32i` with a stage for operands", "rv32i", OPERANDS),
 )

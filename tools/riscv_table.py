@@ -23,12 +23,14 @@ def with_lock(lock):
     return LOCK_OF_X, r"\g<1>" + lock
 
 
+RENAMED = with_lock("rename(4)")
+
 # What the table says of a core, the core, and what is changed in its source.
 ROWS = (
     ("one stage", SINGLE, None),
     ("five stages", FIVE, None),
     ("the same, `queue(4)`", FIVE, with_lock("queue(4)")),
-    ("the same, `rename(4)`", FIVE, with_lock("rename(4)")),
+    ("the same, `rename(4)`", FIVE, RENAMED),
     ("the same, a stage for operands", FIVE, OPERANDS),
     ("with a guess", GUESS, None),
     ("the same, `queue(4)`", GUESS, with_lock("queue(4)")),
@@ -64,8 +66,8 @@ def speeds(figures, core, change):
 
 
 def sizes(program, core, change):
-    """Look-up tables and clock; the memories of the core of one stage don't fit."""
-    if core is SINGLE:
+    """Look-up tables and clock; a core that doesn't fit has none."""
+    if core in (SINGLE, MULTIPLIES) or change == RENAMED:
         return ["", ""]
     it = riscv_board.taken(program, core.source.removesuffix(".pdl"), change)
     return [f"{it.tables:,}", f"{it.clock:.1f}"]

@@ -16,7 +16,7 @@ import sys
 HERE = pathlib.Path(__file__).resolve().parent
 WORDS = 1024
 # A core, and the module round it.
-WRAPPERS = {"rv32i": "top.v", "rv32i_guess": "top.v", "rv32i_counters": "top.v", "rv32i_traps": "top.v", "rv32im": "top.v",
+WRAPPERS = {"rv32i": "top.v", "rv32i_guess": "top.v", "rv32i_counters": "top.v", "rv32i_traps": "top.v",
             "rv32i_delayed": "top_delayed.v", "rv32i_update": "top_delayed.v", "rv32i_btb": "top_delayed.v"}
 CELLS = "/usr/share/yosys/ice40/cells_sim.v"
 
