@@ -22,7 +22,7 @@ import tempfile
 import usage
 from pdl_model import words
 from pdl_model.words import Word
-from real_tools import Module, bench, said
+from real_tools import Module, bench, loads, said
 
 # What of two words x and y is a word of their width: a memory that receives it, its expression, and what it is.
 OF_ONE_WIDTH = {
@@ -165,7 +165,9 @@ def judged(program, made, found, constants, with_tools, folder):
         if status or said_of_it.splitlines() != wanted:
             wrong.append(f"width {width}: {words_of_call[0]}: {differing(said_of_it.splitlines(), wanted)}")
     if with_tools:
-        (folder / "bench.v").write_text(bench(module, image, lambda cycle: [], count))
+        # What is put into an array is seen by Verilator from the next edge of the clock on, so the words stand there before the reset too.
+        early = "\n".join(["  initial begin", *loads(module, image)])
+        (folder / "bench.v").write_text(bench(module, image, lambda cycle: [], count).replace("  initial begin", early, 1))
         for name, calls in others(module, folder):
             answers = [said(it, folder) for it in calls]
             shown = by_ports(module, answers[-1][1], made)
