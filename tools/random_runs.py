@@ -36,7 +36,7 @@ import random_whole
 import usage
 from pdl_model import files, promises, rules
 from pdl_model.dump import NoDump, Wave
-from pdl_model.forms import ALL, Forms, out_of, word_of
+from pdl_model.forms import ALL, TAKEN, Forms, out_of, word_of
 from pdl_model.syntax import Refused
 
 CYCLES = 100
@@ -314,11 +314,11 @@ class Comparison:
         self.program, self.forms = str(pathlib.Path(program).resolve()), forms
         self.folder, self.done = pathlib.Path(folder), Counter()
 
-    def differs(self, kind, source, image, delays="", cycles=CYCLES, threads=THREADS):
-        """Whether an answer differs; then it is told."""
-        found = differences(self.program, self.forms, (source, image, delays), cycles, threads, self.folder)
+    def differs(self, kind, source, image, delays="", cycles=CYCLES, threads=THREADS, forms=None):
+        """Whether an answer differs, from the model with these forms or else with those of all; then it is told."""
+        found = differences(self.program, self.forms if forms is None else forms, (source, image, delays), cycles, threads, self.folder)
         self.done[f"{kind} refused" if found is None else kind] += 1
-        self.done.update(f"{kind} with {it}" for it in ([] if found is None else forms_in(rules.checked(source, self.forms))))
+        self.done.update(f"{kind} with {it}" for it in ([] if found is None else forms_in(rules.checked(source, ALL))))
         if found:
             print(f"{', '.join(found)}:\n{source}\nimage:\n{image}\ndelays:\n{delays}")
         return bool(found)
@@ -335,7 +335,7 @@ def compare_all(program, make_pipe, forms, count, seed):
             source, image, delays = make_pipe(chance, forms)
             wrong = (beside.differs("pipes", source, image, delays)
                      or beside.differs("spoiled pipes", spoiled(chance, source), "image 1\n")
-                     or make_pipe is whole_pipe and beside.differs("pipes of all forms", *whole_pipe(other_chance, ALL)))
+                     or make_pipe is whole_pipe and beside.differs("pipes of all forms", *whole_pipe(other_chance, ALL), forms=TAKEN))
     print(", ".join(f"{name} {count}" for name, count in beside.done.items()))
     return 1 if wrong else 0
 
