@@ -1,5 +1,5 @@
 // A line of text in a buffer of fixed size, so that printing takes no memory.
-ghost use Rattle.std.specs.Prelude.{◌≡◌, ◌+◌, ◌*◌, ◌≤◌, ◌<◌, ◌^◌, ◌++◌, [], ◌∷◌, length, decimal};
+ghost use Rattle.std.specs.Prelude.{◌≡◌, ◌+◌, ◌*◌, ◌/◌, ◌%◌, ◌≤◌, ◌<◌, ◌^◌, ◌++◌, [], ◌∷◌, length, decimal};
 ghost use Rattle.pdl_word.specs.Digits.{hex, most_hex};
 
 use itoa::Buffer;
@@ -65,6 +65,17 @@ impl Line {
     }
 }
 
+// The hexadecimal digit of a value at a place, which is counted from the lowest. Values of 64 bits are moved as such, which takes fewer instructions.
+fn digit_at(value: Word, place: u8) -> Word
+    requires { place < most_hex }
+    ensures { result ≡ value / 2 ^ (4 * place) % 16 }
+{
+    match u64::try_from(value) {
+        Ok(low) if place < 16 => Word::from((low >> (4 * place)) % 16),
+        _ => (value >> (4 * place)) % 16,
+    }
+}
+
 impl Line {
     /// The `count` lowest hexadecimal digits of a value, most significant first.
     pub(crate) fn push_hex(&mut self, count: u8, value: Word)
@@ -75,7 +86,7 @@ impl Line {
     {
         for done in 0..count {
             let place = count - 1 - done;
-            self.push(&[hex_digit((value >> (4 * place)) % 16)]);
+            self.push(&[hex_digit(digit_at(value, place))]);
         }
     }
 }
