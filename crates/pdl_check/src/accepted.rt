@@ -16,6 +16,7 @@ ghost use Rattle.pdl_stages.specs.Graph.{graph_of};
 ghost use Rattle.pdl_source_paths.specs.Source.{is_source, is_named};
 ghost use Rattle.pdl_rules.specs.Memories.{infos_of};
 
+use crate::typed_pipe::TypedPipe;
 use pdl_form::FlatPipe;
 use pdl_kit::{MemInfo, Seq};
 use pdl_locks::LockPlan;
@@ -23,7 +24,6 @@ use pdl_paths::Guards;
 use pdl_rules_judge::{Plans, SpecPlan};
 use pdl_stages::StageGraph;
 use pdl_syntax_tree::Pipe;
-use pdl_types::TypedPipe;
 
 /// A pipe that is read from a text and breaks no rule, with the widths of its variables, its guards in text order, its memories in declared order, the stages of its locks, verifies and updates, its flat form, and its stages.
 pub struct Accepted {

@@ -16,6 +16,7 @@ ghost use Rattle.pdl_check.specs.Answers.{check_answer, Gives, Refuses, IsRefuse
 use crate::accepted::Accepted;
 use crate::infos::infos_of;
 use crate::read::read;
+use crate::typed_pipe::TypedPipe;
 use pdl_form::FlatPipe;
 use pdl_form_lower::lower;
 use pdl_kit::{MemInfo, NoMemory, Refusal, Seq};
@@ -23,7 +24,6 @@ use pdl_rules_judge::{Findings, judge as ask_rules};
 use pdl_rules_widths::Variables;
 use pdl_stages::{StageGraph, stage_graph};
 use pdl_syntax_tree::Pipe;
-use pdl_types::TypedPipe;
 use std::alloc::Global;
 
 /// Checks a source of at most 268,435,456 bytes. A text that is no pipe is refused at its first token out of place (G1). That of a pipe is asked all rules: it is accepted where it breaks none, and else refused by the lowest rule that it breaks, at the line of that rule's lowest place.

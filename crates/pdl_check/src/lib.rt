@@ -7,5 +7,7 @@ pub mod accepted;
 pub mod check;
 mod infos;
 mod read;
+pub mod typed_pipe;
 
 pub use accepted::Accepted;
+pub use typed_pipe::TypedPipe;

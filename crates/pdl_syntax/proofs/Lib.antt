@@ -1,1 +1,4 @@
+mod Stacks
+mod Operators
+pub mod AutomatonRuns
 pub mod Answers

@@ -7,9 +7,9 @@ ghost use Rattle.pdl_syntax.specs.Text.{IsRefusal, IsRefused, IsParsed};
 ghost use Rattle.pdl_syntax_tree.specs.View.{pipe_view};
 
 use crate::error::ParseError;
+use crate::misplaced::misplaced_line;
 use pdl_kit::Rule;
 use pdl_syntax_grammar::read::read;
-use pdl_syntax_recogniser::misplaced::misplaced_line;
 use pdl_syntax_tree::Pipe;
 use std::alloc::Global;
 

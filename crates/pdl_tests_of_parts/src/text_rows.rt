@@ -1,8 +1,8 @@
 // What the recogniser answers, which the program asks token by token, and the parser of texts over the limit of length, of which the program reads no tree. The places of statements.
 use pdl_kit::Rule;
 use pdl_syntax::ParseError;
+use pdl_syntax::misplaced::misplaced_line;
 use pdl_syntax::parse::parse;
-use pdl_syntax_recogniser::misplaced::misplaced_line;
 use pdl_syntax_tree::{Span, Stmt};
 use std::alloc::Global;
 use std::process::Abort;

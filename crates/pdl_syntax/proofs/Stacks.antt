@@ -3,8 +3,8 @@ use Rattle.std.proofs.Common.{◌≡◌, ℕ, ◌<◌, List, [], ◌∷◌, ◌+
 use Rattle.std.specs.Prelude.{option_to_list}
 use Rattle.std.proofs.lemmas.List.{map-append, reverse-append}
 use Rattle.pdl_syntax_grammar.specs.Automaton.{Stack}
-use Rattle.pdl_syntax_recogniser.specs.declared.symbol.Symbol as r
-use Rattle.pdl_syntax_recogniser.specs.View.{symbol_view, maybe_symbol_view, top, below_top}
+use Rattle.pdl_syntax.specs.declared.symbol.Symbol as r
+use Rattle.pdl_syntax.specs.View.{symbol_view, maybe_symbol_view, top, below_top}
 
 abbrev stack_of : List r.Symbol → Stack
 stack_of xs = reverse (map symbol_view xs)

@@ -3,12 +3,12 @@ use Rattle.std.specs.Prelude.{◌≡◌, Bool, true, false, List, [], ◌∷◌,
 use Rattle.pdl_syntax_grammar.specs.Automaton as spec
 use Rattle.pdl_syntax_grammar.specs.Automaton.{Closer, Listing, Sym, Stack}
 use Rattle.pdl_kit.specs.declared.no_memory.NoMemory.{NoMemory}
-use Rattle.pdl_syntax_recogniser.specs.declared.symbol.Closer as r_closer
-use Rattle.pdl_syntax_recogniser.specs.declared.symbol.Closer.TheVariants as r_closers
-use Rattle.pdl_syntax_recogniser.specs.declared.symbol.Listing as r_listing
-use Rattle.pdl_syntax_recogniser.specs.declared.symbol.Listing.TheVariants as r_listings
-use Rattle.pdl_syntax_recogniser.specs.declared.symbol.Symbol as r_symbol
-use Rattle.pdl_syntax_recogniser.specs.declared.symbol.Symbol.TheVariants as r
+use Rattle.pdl_syntax.specs.declared.symbol.Closer as r_closer
+use Rattle.pdl_syntax.specs.declared.symbol.Closer.TheVariants as r_closers
+use Rattle.pdl_syntax.specs.declared.symbol.Listing as r_listing
+use Rattle.pdl_syntax.specs.declared.symbol.Listing.TheVariants as r_listings
+use Rattle.pdl_syntax.specs.declared.symbol.Symbol as r_symbol
+use Rattle.pdl_syntax.specs.declared.symbol.Symbol.TheVariants as r
 
 -- the closer that a value of the program stands for
 abbrev pub closer_view : r_closer.Closer → Closer

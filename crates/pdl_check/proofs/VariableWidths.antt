@@ -18,9 +18,9 @@ use Rattle.pdl_rules.proofs.TypedExpressions.{width_is}
 use Rattle.pdl_rules.proofs.KnownVariables.{AreKnown, none_known, known_same, known_more, known_stay}
 use Rattle.pdl_rules_widths.specs.Variables.{width_among}
 use Rattle.pdl_rules_names.proofs.Firsts.{none_some}
-use Rattle.pdl_types.specs.Narrow.{are_narrow}
-use Rattle.pdl_types.proofs.Unbroken.{KeepsWidths, here, after}
-use Rattle.pdl_types.proofs.Expressions.{expr_narrow}
+use Rattle.pdl_check.specs.Narrow.{are_narrow}
+use Rattle.pdl_check.proofs.Unbroken.{KeepsWidths, here, after}
+use Rattle.pdl_check.proofs.Expressions.{expr_narrow}
 use Rattle.pdl_word.proofs.Bools.{none_given}
 use Rattle.pdl_word.specs.Words.{widest}
 

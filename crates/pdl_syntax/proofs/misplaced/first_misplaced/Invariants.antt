@@ -3,7 +3,7 @@ use Rattle.pdl_syntax_cursor.specs.Limits.{at_start}
 use Rattle.pdl_syntax_cursor.specs.MarkedTokens.{marked_row}
 use Rattle.pdl_syntax_grammar.specs.Automaton.{run, whole}
 use Rattle.pdl_syntax_tokens.specs.Tokens.{tokens}
-use Rattle.pdl_syntax_recogniser.proofs.misplaced.first_misplaced.Given as goal
+use Rattle.pdl_syntax.proofs.misplaced.first_misplaced.Given as goal
 
 -- the automaton goes on from here as it does from the beginning
 abbrev pub invariant-loop-kind : goal.invariant-loop-kind

@@ -1,6 +1,6 @@
 use Rattle.std.proofs.Common.{◌≤◌, sym, arith}
-use Rattle.pdl_types.proofs.VariableWidths.{narrow_among}
-use Rattle.pdl_types.proofs.typed_pipe.TypedPipe.width.Goals as goal
+use Rattle.pdl_check.proofs.VariableWidths.{narrow_among}
+use Rattle.pdl_check.proofs.typed_pipe.TypedPipe.width.Goals as goal
 use Rattle.pdl_word.specs.Words.{widest}
 
 pub overflow_cast-result : goal.overflow_cast-result

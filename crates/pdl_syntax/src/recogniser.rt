@@ -1,7 +1,7 @@
 // The automaton that takes a text, a token at a time.
 ghost use Rattle.std.specs.Prelude.{◌≡◌, ◌↔◌, [], IfOk, IsTrue};
 ghost use Rattle.pdl_syntax_grammar.specs.Automaton as spec;
-ghost use Rattle.pdl_syntax_recogniser.specs.Answers.{StepsTo, stack_after};
+ghost use Rattle.pdl_syntax.specs.Answers.{StepsTo, stack_after};
 
 use crate::expecting::{first_of, take_token};
 use crate::stack::Stack;

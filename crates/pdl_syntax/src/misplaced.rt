@@ -2,7 +2,7 @@
 ghost use Rattle.std.specs.Prelude.{◌≡◌, ◌≤◌, ℕ, Some, None, IfOk, length};
 ghost use Rattle.pdl_syntax_grammar.specs.Text.{IsText, IsOutOfPlace};
 ghost use Rattle.pdl_semantics.specs.Tree as tree;
-ghost use Rattle.pdl_syntax_recogniser.specs.Answers.{IsRecognised};
+ghost use Rattle.pdl_syntax.specs.Answers.{IsRecognised};
 
 use crate::recogniser::Recogniser;
 use pdl_kit::NoMemory;

@@ -10,8 +10,8 @@ use Rattle.pdl_syntax_cursor.specs.MarkedTokens.{marked_row, first_line}
 use Rattle.pdl_syntax_grammar.specs.Automaton.{Sym, Stack, act, run, whole}
 use Rattle.pdl_syntax_grammar.specs.Text.{IsText, IsOutOfPlace}
 use Rattle.pdl_syntax_grammar.proofs.Places.{recognised, stopped_at, apart, one_place}
-use Rattle.pdl_syntax_recogniser.specs.Answers.{IsRecognised, StepsTo, stack_after}
-use Rattle.pdl_syntax_recogniser.specs.View.{Expects, top, below_top}
+use Rattle.pdl_syntax.specs.Answers.{IsRecognised, StepsTo, stack_after}
+use Rattle.pdl_syntax.specs.View.{Expects, top, below_top}
 
 -- ---- one step
 

@@ -8,7 +8,7 @@ use Rattle.pdl_syntax_tokens.specs.declared.token.TokenKind.TheVariants as kind
 use Rattle.pdl_syntax_cursor.specs.Looks.{is_mark}
 use Rattle.pdl_syntax_grammar.specs.Automaton.{Closer, Listing, closer, Stack, operand, act_on, act_more, act_operator, act_choice, act_rest}
 use Rattle.pdl_syntax_grammar.specs.Grammar.{operator_of}
-use Rattle.pdl_syntax_recogniser.specs.View.{Expects}
+use Rattle.pdl_syntax.specs.View.{Expects}
 
 -- after an operand an operator makes the automaton expect an operand
 pub rest_operator : (q : Closer) (m : Mark) → is_some (operator_of m) ≡ true → act_rest q (kind.Mark m) ≡ Some (operand q ∷ [])

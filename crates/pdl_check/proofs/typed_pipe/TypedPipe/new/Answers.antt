@@ -1,9 +1,9 @@
 use Rattle.std.proofs.Common.{ap, ◌∙◌}
 use Rattle.pdl_syntax_tree.specs.View.{pipe_view}
-use Rattle.pdl_types.specs.Narrow.{are_narrow}
-use Rattle.pdl_types.proofs.Unbroken.{keeps_widths}
-use Rattle.pdl_types.proofs.VariableWidths.{variables_narrow}
-use Rattle.pdl_types.proofs.typed_pipe.TypedPipe.new.Goals as goal
+use Rattle.pdl_check.specs.Narrow.{are_narrow}
+use Rattle.pdl_check.proofs.Unbroken.{keeps_widths}
+use Rattle.pdl_check.proofs.VariableWidths.{variables_narrow}
+use Rattle.pdl_check.proofs.typed_pipe.TypedPipe.new.Goals as goal
 
 pub invariant_of-result : goal.invariant_of-result
 invariant_of-result c =

@@ -5,7 +5,7 @@ ghost use Rattle.pdl_syntax_grammar.specs.Automaton as spec;
 ghost use Rattle.pdl_syntax_tokens.specs.declared.token.Mark.TheVariants as mark;
 ghost use Rattle.pdl_syntax_tokens.specs.declared.token.TokenKind.TheVariants as kind;
 ghost use Rattle.pdl_syntax_grammar.specs.Grammar.{operator_of};
-ghost use Rattle.pdl_syntax_recogniser.specs.View.{symbol_view, closer_view, listing_view, Expects};
+ghost use Rattle.pdl_syntax.specs.View.{symbol_view, closer_view, listing_view, Expects};
 
 use crate::stack::Stack;
 use crate::symbol::{Closer, Listing, Symbol};

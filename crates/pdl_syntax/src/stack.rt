@@ -1,6 +1,6 @@
 // The stack of what is expected.
 ghost use Rattle.std.specs.Prelude.{◌≡◌, ◌++◌, ◌↔◌, [], IsTrue, OnOk, map, reverse};
-ghost use Rattle.pdl_syntax_recogniser.specs.View.{symbol_view, maybe_symbol_view, top, below_top};
+ghost use Rattle.pdl_syntax.specs.View.{symbol_view, maybe_symbol_view, top, below_top};
 
 use crate::symbol::Symbol;
 use pdl_kit::NoMemory;
@@ -16,7 +16,7 @@ pub struct Stack {
 impl Model for Stack {
     ghost use Rattle.std.specs.Prelude.{reverse, map};
     ghost use Rattle.pdl_syntax_grammar.specs.Automaton as spec;
-    ghost use Rattle.pdl_syntax_recogniser.specs.View.{symbol_view};
+    ghost use Rattle.pdl_syntax.specs.View.{symbol_view};
 
     ghost Value = { spec.Stack };
 

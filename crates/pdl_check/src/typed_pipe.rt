@@ -6,7 +6,7 @@ ghost use Rattle.pdl_rules.specs.Widths.{variables as spec_variables};
 ghost use Rattle.pdl_rules_names.specs.Order.{name_rules};
 ghost use Rattle.pdl_rules_widths.specs.Order.{width_rules};
 ghost use Rattle.pdl_rules_widths.specs.Variables.{width_among};
-ghost use Rattle.pdl_types.specs.Narrow.{are_narrow};
+ghost use Rattle.pdl_check.specs.Narrow.{are_narrow};
 
 use pdl_kit::Name;
 use pdl_rules_widths::Variables;

@@ -1,3 +1,0 @@
-mod Stacks
-mod Operators
-pub mod AutomatonRuns
