@@ -1,4 +1,4 @@
--- What follows a pipe by what is seen of it: a netlist that shows the same follows it too, and it has the two outputs that each pipe has.
+-- What follows a pipe by what is seen of it: a netlist that shows the same follows it too.
 use Rattle.std.proofs.Common.{◌≡◌, ℕ, List, map, ap, ◌∙◌, subst}
 use Rattle.pdl_semantics.specs.Tree as tree
 use Rattle.pdl_net.specs.declared.Netlist.{Netlist}
