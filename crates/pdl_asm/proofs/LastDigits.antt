@@ -4,7 +4,7 @@ use Rattle.std.specs.Prelude.{option_map, pos}
 use Rattle.std.specs.List.{list_all}
 use Rattle.std.specs.Str.Parse.{digits_value}
 use Rattle.std.specs.Char.{digit_value}
-use Rattle.std.proofs.lemmas.Bool.{cases_lt, le-leb, lt-leb}
+use Rattle.std.proofs.lemmas.Bool.{cases_lt, le-leb, lt-leb, and_left, and_right, and_from}
 use Rattle.std.proofs.lemmas.Int.Digits.{digits_value_push}
 use Rattle.std.proofs.lemmas.List.{take-append-drop, take_rest, length-take-le}
 use Rattle.std.proofs.lemmas.List.Folds.{list_all-append}
@@ -75,18 +75,6 @@ if_so : (b : Bool) (n k : ℕ) → b ≡ true → k ≡ n → (if b then Some n 
 if_so true n k e f = ap Some (sym f)
 if_so false n k e f = cc
 
-and_not : (a b : Bool) → a ≡ false → (a && b) ≡ false
-and_not true b e = cc
-and_not false b e = refl
-
-not_and : (a b : Bool) → b ≡ false → (a && b) ≡ false
-not_and true b e = e
-not_and false b e = refl
-
-and_both : (a b : Bool) → a ≡ true → b ≡ true → (a && b) ≡ true
-and_both true b e f = f
-and_both false b e f = cc
-
 -- a text of at most one byte that is no digit is no number
 pub no_digit : (ds : List ℕ) → length ds ≤ 1 → are_digits 10 1 ds ≡ false → decimal_of ds ≡ None
 no_digit ds h e = if_not (are_digits 10 39 ds) (digits_value 10 ds) (one_same ds h ∙ e)
@@ -97,16 +85,16 @@ one_digit ds n h e f = if_so (are_digits 10 39 ds) (digits_value 10 ds) n (one_s
 
 -- a text of which all but the last byte are no number is none
 pub no_tens : (ds : List ℕ) (end : ℕ) → end + 1 ≡ length ds → 1 ≤ end → are_digits 10 38 (first_of ds end) ≡ false → decimal_of ds ≡ None
-no_tens ds end e h f = if_not (are_digits 10 39 ds) (digits_value 10 ds) ((both ds end e h).0 ∙ and_not _ _ f)
+no_tens ds end e h f = if_not (are_digits 10 39 ds) (digits_value 10 ds) ((both ds end e h).0 ∙ and_left _ _ f)
 
 -- and so is one of which the last byte is no digit
 pub no_units : (ds : List ℕ) (end : ℕ) → end + 1 ≡ length ds → 1 ≤ end → are_digits 10 1 (last_of ds end) ≡ false → decimal_of ds ≡ None
-no_units ds end e h f = if_not (are_digits 10 39 ds) (digits_value 10 ds) ((both ds end e h).0 ∙ not_and _ _ f)
+no_units ds end e h f = if_not (are_digits 10 39 ds) (digits_value 10 ds) ((both ds end e h).0 ∙ and_right _ _ f)
 
 -- else it is ten times the number before the last digit, and this
 pub tens_and_units : (ds : List ℕ) (end t u : ℕ) → end + 1 ≡ length ds → 1 ≤ end
     → are_digits 10 38 (first_of ds end) ≡ true → are_digits 10 1 (last_of ds end) ≡ true
     → t ≡ digits_value 10 (first_of ds end) → u ≡ digits_value 10 (last_of ds end) → decimal_of ds ≡ Some (10 * t + u)
 tens_and_units ds end t u e h f g p q =
-    if_so (are_digits 10 39 ds) (digits_value 10 ds) (10 * t + u) ((both ds end e h).0 ∙ and_both _ _ f g)
+    if_so (are_digits 10 39 ds) (digits_value 10 ds) (10 * t + u) ((both ds end e h).0 ∙ and_from _ _ f g)
     (let b = (both ds end e h).1 in omega (arith, b, p, q))

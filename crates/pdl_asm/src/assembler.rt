@@ -13,10 +13,10 @@ use crate::line::AssemblyLine;
 use crate::operation::read_line;
 use crate::place::{after_line, define_label};
 use crate::rules::line_rule;
-use crate::text::split_line;
 use crate::whole::Whole;
 use crate::words::WordSlots;
 use pdl_asm_table::{Dictionary, Table};
+use pdl_image::split_line;
 use pdl_kit::NoMemory;
 use std::alloc::Global;
 

@@ -7,9 +7,9 @@ ghost use Rattle.pdl_asm.specs.Lines.{counted as counted_of, magnitude_of, numbe
 use crate::digits::{read_decimal, read_hexadecimal};
 use crate::line::{Operand, Operands};
 use crate::number::SignedNumber;
-use crate::text::{find_byte, without_blanks};
+use crate::text::without_blanks;
 use crate::whole::Whole;
-use pdl_asm_table::is_name;
+use pdl_image::{find_byte, is_name};
 use pdl_kit::{Name, NoMemory, Seq};
 use std::alloc::Global;
 

@@ -4,8 +4,8 @@ ghost use Rattle.pdl_asm.specs.Lines.{line_of, line_of_text, number_of, line_wit
 
 use crate::line::{AssemblyLine, Operation};
 use crate::operand::{read_number, read_operands};
-use crate::text::{find_blank, find_byte, trim_start, without_blanks, without_comment};
-use pdl_asm_table::is_name;
+use crate::text::{find_blank, trim_start, without_blanks, without_comment};
+use pdl_image::{find_byte, is_name};
 use pdl_kit::{Name, NoMemory};
 use std::alloc::Global;
 

@@ -1,28 +1,6 @@
 // Parts of a line: what stands before a comment, and texts without the blanks round them.
-ghost use Rattle.std.specs.Prelude.{◌≡◌, ◌<◌, ◌∷◌, ◌==◌, IfSome, length, position};
-ghost use Rattle.pdl_image.specs.Lines.{lines};
+ghost use Rattle.std.specs.Prelude.{◌≡◌, ◌<◌, IfSome, length, position};
 ghost use Rattle.pdl_asm.specs.Lines.{is_blank as is_blank_of, is_comment as is_comment_of, trim_start as trim_start_of, trim_end as trim_end_of, without_blanks as trimmed_of, without_comment as uncommented_of};
-
-/// The place of the first byte that equals `byte`, if there is one.
-pub fn find_byte(text: &[u8], byte: u8) -> Option<usize>
-    ensures value { result ≡ position (λ c. c == byte) text.now }
-    ensures within { IfSome result (λ i. i < length text.now) }
-{
-    text.iter().position(|c| *c == byte)
-}
-
-/// The first line of a text that isn't empty, without its line feed, and the text after it.
-#[tactic(auto, using(pdl_image::proofs::Parts::split_at, pdl_image::proofs::Parts::split_whole))]
-pub fn split_line(text: &[u8]) -> (&[u8], &[u8])
-    requires { 0 < length text.now }
-    ensures value { lines text.now ≡ result.0.now ∷ lines result.1.now }
-    ensures shorter { length result.1.now < length text.now }
-{
-    match find_byte(text, b'\n') {
-        Some(end) => (&text[..end], &text[end + 1..]),
-        None => (text, &text[text.len()..]),
-    }
-}
 
 /// Whether a byte is a space or a tab.
 pub fn is_blank(byte: u8) -> bool

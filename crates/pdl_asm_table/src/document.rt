@@ -9,7 +9,8 @@ ghost use Rattle.pdl_asm_table.specs.Documents.{are_tables as are_tables_of, has
 ghost use Rattle.pdl_word.specs.Words.{widest};
 
 use crate::dictionary::Dictionary;
-use crate::names::{is_name, is_one_of, is_pipe_name};
+use crate::names::{is_one_of, is_pipe_name};
+use pdl_image::is_name;
 use pdl_kit::{Name, NoMemory};
 use pdl_word::WIDEST;
 use std::alloc::Global;

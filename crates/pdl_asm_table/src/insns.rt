@@ -7,9 +7,10 @@ ghost use Rattle.pdl_image.specs.Images.{is_name as is_name_of};
 ghost use Rattle.pdl_asm_table.specs.Documents.{args_of, arg_of, insn_of, insn_of_members, insns_of, kind_of, letter_argument as lettered_of, text_at as text_of, text_without_spaces, where_is, Meets};
 
 use crate::document::{has_insn_keys, list_at, text_at};
-use crate::names::{is_letter, is_name};
+use crate::names::is_letter;
 use crate::table::{Arg, ArgumentKind, Insn};
 use crate::table_error::TableError;
+use pdl_image::is_name;
 use pdl_kit::{Name, NoMemory, Rule, Seq};
 use std::alloc::Global;
 use toml::{Table as Document, Value};

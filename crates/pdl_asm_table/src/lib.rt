@@ -12,7 +12,6 @@ pub mod table;
 pub mod table_error;
 
 pub use dictionary::Dictionary;
-pub use names::is_name;
 pub use read::read_table;
 pub use table::{Arg, ArgumentKind, Insn, Table};
 pub use table_error::TableError;

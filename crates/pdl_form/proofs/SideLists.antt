@@ -2,13 +2,8 @@
 use Rattle.std.proofs.Common.{◌≡◌, refl, sym, ap, ap₂, ◌∙◌, ℕ, Bool, true, false, ◌||◌, ◌==◌, if◌then◌else◌, List, [], ◌∷◌, ◌++◌, Option, Some, None, is_some, append_assoc}
 use Rattle.pdl_semantics.specs.Flat.{Branch}
 use Rattle.pdl_semantics.specs.Stages.{sides_of, list_any}
+use Rattle.pdl_semantics.proofs.Facts.{sides_append}
 use Rattle.pdl_form.specs.Sides.{listed, first_of}
-
-sides_append : (f : ℕ) (xs ys : List Branch) → sides_of f (xs ++ ys) ≡ sides_of f xs ++ sides_of f ys
-sides_append f [] ys = refl
-sides_append f (b ∷ xs) ys =
-    ap (λ l. (if b.fork == f then b.first ∷ [] else []) ++ l) (sides_append f xs ys)
-    ∙ sym (append_assoc (if b.fork == f then b.first ∷ [] else []) (sides_of f xs) (sides_of f ys))
 
 first_or : (xs ys : List Bool) → first_of (listed (first_of xs) ++ listed (first_of ys)) ≡ first_of (xs ++ ys)
 first_or [] [] = refl

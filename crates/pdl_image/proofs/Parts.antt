@@ -6,12 +6,9 @@ use Rattle.std.proofs.lemmas.List.Splits.{slice_split_first, slice_split_none}
 use Rattle.std.proofs.lemmas.List.Sums.{fails_before_first}
 use Rattle.std.proofs.lemmas.List.{take_rest}
 use Rattle.std.proofs.Math.Seq.{drop-length}
+use Rattle.std.proofs.lemmas.Option.{cond_some}
 use Rattle.pdl_image.specs.Images.{fields}
 use Rattle.pdl_image.specs.Lines.{lines}
-
-some_of : (b : Bool) (n i : ℕ) → cond b (Some n) None ≡ Some i → (b ≡ true) × (n ≡ i)
-some_of true n i e = (refl, cc)
-some_of false n i e = cc
 
 none_of : (b : Bool) (n : ℕ) → cond b (Some n) None ≡ None → b ≡ false
 none_of true n e = cc
@@ -20,7 +17,7 @@ none_of false n e = refl
 -- where the first byte that passes stands
 pub place_is : {X : Type 0} (p : X → Bool) (xs : List X) (i : ℕ) → position p xs ≡ Some i → (position_or_len p xs ≡ i) × (i < length xs)
 place_is p xs i e =
-    let f = some_of _ _ _ e in
+    let f = cond_some _ _ _ e in
     let h : position_or_len p xs < length xs = ltb-true _ _ f.0 in
     (f.1, subst (λ n. n < length xs) f.1 h)
 

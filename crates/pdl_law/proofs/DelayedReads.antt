@@ -2,6 +2,7 @@
 use Rattle.std.proofs.Common.{◌≡◌, refl, sym, ap, ◌∙◌, subst, ℕ, suc, ◌<◌, ◌≤◌, Bool, true, false, not, List, [], ◌∷◌, Option, Some, ◌==◌, arith, eq-eqb, ne_eqb}
 use Rattle.std.specs.Prelude.{if◌then◌else◌, ⊤}
 use Rattle.std.proofs.lemmas.Bool.{eqb-true, and_parts, false≢true}
+use Rattle.std.proofs.lemmas.Option.{same_Some}
 use Rattle.pdl_semantics.specs.Flat.{Op, DelayedRead, Stmt, Pipe}
 use Rattle.pdl_semantics.specs.Forms.{on_delayed_read}
 use Rattle.pdl_semantics.specs.Stages.{in_stage}
@@ -27,9 +28,6 @@ rises_from lo low hi (x ∷ xs) l h = at x.op h (λ i. rises_from lo low hi xs l
     at (DelayedRead y m a) i go = (let k = i.0 in omega (arith, l, k), i.1)
     at _ i go = go i
 
-some_is : {X : Type 0} → (a b : X) → Some a ≡ Some b → a ≡ b
-some_is a b e = cc e
-
 -- whatever holds of each delayed read holds of a memory's first one
 pub reading_has : (P : ℕ → Reading → Type 0) (xs : List Stmt)
     → Each (λ (x : Stmt). on_delayed_read (λ y m a. P m (record { stage = x.stage; var = y })) ⊤ x.op) xs
@@ -43,7 +41,7 @@ reading_has P (x ∷ xs) h m r e = at x.op h.0 e (reading_has P xs h.1 m r)
     at (DelayedRead y n a) i f go = by (n == m) refl f
       where
         by : (b : Bool) → (n == m) ≡ b → (if b then Some (record { stage = x.stage; var = y }) else reading_in m xs) ≡ Some r → P m r
-        by true g j = subst (λ k. P k r) (eqb-true n m g) (subst (P n) (some_is (record { stage = x.stage; var = y }) r j) i)
+        by true g j = subst (λ k. P k r) (eqb-true n m g) (subst (P n) (same_Some (record { stage = x.stage; var = y }) r j) i)
         by false g j = go j
     at _ i f go = go f
 
@@ -95,11 +93,11 @@ reads_apart lo hi (x ∷ xs) h m n r q e f g = at x.op h e f (λ low i. reads_ap
         by true true s t k l = sym (eqb-true i m s) ∙ eqb-true i n t
         by true false s t k l =
             absurd
-            (let v : y ≡ r.var = ap (λ (z : Reading). z.var) (some_is (record { stage = x.stage; var = y }) r k) in
+            (let v : y ≡ r.var = ap (λ (z : Reading). z.var) (same_Some (record { stage = x.stage; var = y }) r k) in
             let w = later n q l in omega (arith, v, w, g))
         by false true s t k l =
             absurd
-            (let v : y ≡ q.var = ap (λ (z : Reading). z.var) (some_is (record { stage = x.stage; var = y }) q l) in
+            (let v : y ≡ q.var = ap (λ (z : Reading). z.var) (same_Some (record { stage = x.stage; var = y }) q l) in
             let w = later m r k in omega (arith, v, w, g))
         by false false s t k l = go (suc y) j.1 k l g
     at _ j e f go = go lo j e f g

@@ -5,7 +5,7 @@ use Rattle.pdl_semantics.specs.Stages.{stage_at}
 use Rattle.pdl_net.specs.Signal.{Signal, no_signal, mux_signal}
 use Rattle.pdl_machine_facts.specs.Slots.{ways}
 use Rattle.pdl_law_parts.specs.declared.Mark.{Mark}
-use Rattle.pdl_law_parts.specs.Walk.{Locks, Birth, Walk, one, zero_bit, both}
+use Rattle.pdl_law_parts.specs.Walk.{Birth, Walk, one, zero_bit, both}
 
 -- a stage: whether it holds a thread, that thread's variables as they were kept and its ticket of each lock, and the walk before and after its rows; the walk begins with the answers of this cycle
 pub record View : Type 0 where
@@ -21,10 +21,6 @@ pub record Gates : Type 0 where
   pub kill : ℕ → Signal
   pub squash : Signal
   pub tail : ℕ → Signal
-
--- nothing stands beside the stages: each gate is open, none is removed, and nothing is squashed
-abbrev pub no_gates : Locks → Gates
-no_gates ls = record { gate = λ k. one; kill = λ k. zero_bit; squash = zero_bit; tail = λ m. ls.ticket m }
 
 -- ---- who moves
 

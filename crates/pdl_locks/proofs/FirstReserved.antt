@@ -1,7 +1,7 @@
 -- Which location of a memory is reserved first to write, after one place more.
 use Rattle.std.proofs.Common.{◌≡◌, refl, sym, ap, ◌∙◌, ℕ, ◌<◌, Bool, true, false, cond, if◌then◌else◌, List, [], ◌∷◌, ◌++◌, filter, length, Option, Some, None}
-use Rattle.std.specs.Option.{is_some}
 use Rattle.std.proofs.lemmas.Bool.{false≢true}
+use Rattle.std.proofs.lemmas.Option.{none-some}
 use Rattle.pdl_semantics.specs.Tree.{Location, W, Reserve}
 use Rattle.pdl_rules.specs.Places.{Place, Statement}
 use Rattle.pdl_rules.specs.Locks.{first_reserved, is_reserve_of}
@@ -15,10 +15,6 @@ use Rattle.pdl_locks.proofs.UseLaws.{unreserved_memory}
 use Rattle.pdl_locks.proofs.UseSteps.{HasLaws}
 use Rattle.pdl_word.proofs.Bytes.{bytes_same}
 
--- there is none and some
-pub none_and_some : {T : Type 0} (x : T) → None ≡ Some x → ⊥
-none_and_some x e = false≢true (ap is_some e)
-
 -- a place that reserves a memory has a location
 pub reserve_place : (m : List ℕ) (x : Place) → is_reserve_of W m x ≡ true → (l : Location) × (location_at x ≡ Some l)
 reserve_place m (Statement (Reserve s l k) bs) e = (l, refl)
@@ -27,7 +23,7 @@ reserve_place m _ e = absurd (false≢true e)
 -- it stays where there is one
 pub first_kept : (m : List ℕ) (before : List Place) (x : Place) (f : Location)
     → first_reserved m before ≡ Some f → first_reserved m (before ++ x ∷ []) ≡ Some f
-first_kept m [] x f h = absurd (none_and_some f h)
+first_kept m [] x f h = absurd (none-some f h)
 first_kept m (y ∷ before) x f h = at (is_reserve_of W m y) refl h (λ k. first_kept m before x f k)
   where
     at : (b : Bool) → is_reserve_of W m y ≡ b → (if b then location_at y else first_reserved m before) ≡ Some f
@@ -46,13 +42,13 @@ first_comes m (y ∷ before) x l own h none = at (is_reserve_of W m y) refl none
     at : (b : Bool) → is_reserve_of W m y ≡ b → (if b then location_at y else first_reserved m before) ≡ None
         → (first_reserved m before ≡ None → first_reserved m (before ++ x ∷ []) ≡ Some l)
         → first_reserved m (y ∷ before ++ x ∷ []) ≡ Some l
-    at true e k rest = let o = reserve_place m y e in absurd (none_and_some o.0 (sym k ∙ o.1))
+    at true e k rest = let o = reserve_place m y e in absurd (none-some o.0 (sym k ∙ o.1))
     at false e k rest = rw e (rest k)
 
 -- the first of some places is a location of all of them
 pub first_there : (m : List ℕ) (f : Location) (keep : Place → Bool) (before later : List Place)
     → first_reserved m (filter keep before) ≡ Some f → first_place Locations f (before ++ later) < length (before ++ later)
-first_there m f keep [] later h = absurd (none_and_some f h)
+first_there m f keep [] later h = absurd (none-some f h)
 first_there m f keep (y ∷ before) later h = at (keep y) refl h (λ k. one_before Locations f y (before ++ later) (first_there m f keep before later k))
   where
     which : (b : Bool) → is_reserve_of W m y ≡ b → (if b then location_at y else first_reserved m (filter keep before)) ≡ Some f

@@ -3,6 +3,7 @@ use Rattle.std.proofs.Common.{◌≡◌, refl, sym, ap, ◌∙◌, subst, ap₂,
 use Rattle.std.specs.List.{list_any}
 use Rattle.std.proofs.lemmas.Bool.{eqb-true, le-leb}
 use Rattle.std.specs.Cmp.{both_ways}
+use Rattle.std.proofs.lemmas.Option.{none-some}
 use Rattle.pdl_semantics.specs.Tree.{Location}
 use Rattle.pdl_rules.specs.Places.{Place}
 use Rattle.pdl_rules.specs.Locks.{same_location, writes_location, is_out_of_turn, first_reserved}
@@ -11,19 +12,18 @@ use Rattle.pdl_locks.specs.declared.uses.LocationUse as location
 use Rattle.pdl_locks.specs.Numbers.{first_place}
 use Rattle.pdl_locks.specs.Uses.{AreKept, IsFirst, IsThere, IsUsed, first_number}
 use Rattle.pdl_locks.proofs.BoundedCounts.{some_counted}
-use Rattle.pdl_locks.proofs.FirstReserved.{none_and_some}
 use Rattle.pdl_locks.proofs.KeyNumbers.{first_same, same_first}
 
 -- the location that has a number
 pub numbered : (all : List Place) (o : Option Location) (n : ℕ) → Some n ≡ first_number all o
     → (f : Location) × (o ≡ Some f) × (n ≡ first_place Locations f all)
-numbered all None n e = absurd (none_and_some n (sym e))
+numbered all None n e = absurd (none-some n (sym e))
 numbered all (Some f) n e = (f, refl, cc e)
 
 -- there is none where there is no number
 pub unnumbered : (all : List Place) (o : Option Location) → None ≡ first_number all o → o ≡ None
 unnumbered all None e = refl
-unnumbered all (Some f) e = absurd (none_and_some (first_place Locations f all) e)
+unnumbered all (Some f) e = absurd (none-some (first_place Locations f all) e)
 
 -- locations have one number where they are the same
 same_number : (all : List Place) (l f : Location) (x : Place) (n k : ℕ) → n ≡ first_place Locations f all → k ≡ first_place Locations l all

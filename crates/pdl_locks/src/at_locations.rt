@@ -16,7 +16,7 @@ ghost use Rattle.pdl_locks.specs.RuleQuestions.{breaks_at_location};
 use crate::numbers::number_of;
 use crate::uses::{LocationUse, use_at};
 use pdl_kit::{Name, NoMemory};
-use pdl_paths::{Action, Path, Place};
+use pdl_paths::{Action, Path, Place, is_locked};
 use pdl_rules_on_paths::PathRule;
 use pdl_syntax_tree::{AccessKind, LockDecl, Mem, Pipe, is_advisory};
 use std::alloc::Global;
@@ -199,16 +199,4 @@ fn declared_size(lock: &Option<LockDecl>) -> u64
         None => 0,
         Some(lock) => lock.size.value,
     }
-}
-
-/// Whether a memory has a lock.
-pub fn is_locked(mems: &[Mem], name: &Name) -> bool
-    ensures { result ≡ spec.is_locked (map mem_view mems.now) name.now }
-{
-    for mem in mems {
-        if mem.name.name == *name {
-            return mem.lock.is_some();
-        }
-    }
-    false
 }

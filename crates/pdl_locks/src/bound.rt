@@ -9,9 +9,8 @@ ghost use Rattle.pdl_rules_stages.specs.PathBits.{IsPath};
 ghost use Rattle.pdl_rules_stages.specs.Stages.{stages_in};
 ghost use Rattle.pdl_locks.specs.Bound.{AreOfPipe, last_at as spec_last_at};
 
-use crate::at_locations::is_locked;
 use pdl_kit::NoMemory;
-use pdl_paths::{Action, Guards, Path, Place, location_at};
+use pdl_paths::{Action, Guards, Path, Place, is_locked, location_at};
 use pdl_rules_on_paths::PathRule;
 use pdl_rules_stages::{SoughtPlace, among, first_stage, next_on, stage_at};
 use pdl_syntax_tree::Pipe;

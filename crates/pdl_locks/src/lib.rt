@@ -15,7 +15,7 @@ pub mod turns;
 pub mod uses;
 pub mod walk;
 
-pub use at_locations::{AtLocations, LocationRule, is_locked, pass};
+pub use at_locations::{AtLocations, LocationRule, pass};
 pub use at_memories::{AtMemories, MemoryRule};
 pub use bound::BoundInTime;
 pub use check::{check_locks, plan_locks, refuse};

@@ -1,6 +1,7 @@
 -- What the facts of an accepted pipe say of the statements that a thread has passed, and of those of its stage, on the path that it takes.
 use Rattle.std.proofs.Common.{◌≡◌, refl, sym, ap, ap₂, ◌∙◌, subst, ℕ, ◌<◌, Bool, true, false, ◌&&◌, ◌||◌, not, List, [], ◌∷◌, ◌++◌, length, ◌==◌, nat_lt, nat_le, cond, arith, append_assoc, eq-eqb, leb-false, le-leb}
 use Rattle.std.proofs.lemmas.Bool.{false≢true}
+use Rattle.std.proofs.Math.Bool.{and-false}
 use Rattle.pdl_semantics.specs.Flat.{Pipe, Op, CombRead, DelayedRead, Write, Block, Release, Stmt, Expr, list_all, all_hold}
 use Rattle.pdl_semantics.specs.Stages.{list_any, onpath, in_stage, mem_at, is_release, commit_stage, verify_stage}
 use Rattle.pdl_semantics.specs.Machine.{State}
@@ -35,11 +36,6 @@ use Rattle.pdl_theory_turns.proofs.Guesses.{makings_first, makings_second}
 use Rattle.pdl_theory_turns.proofs.OwnEntries.{none_first}
 use Rattle.pdl_theory_turns.proofs.TurnPath.{phase_append}
 use Rattle.pdl_theory_turns.proofs.Paths.{none_onpath}
-
--- nothing and false is false
-pub and_false : (b : Bool) → (b && false) ≡ false
-and_false true = refl
-and_false false = refl
 
 -- PARTS OF A LIST OF STATEMENTS
 
@@ -135,7 +131,7 @@ module _ (p q : Pipe) (same : (m : ℕ) → commit_stage q m ≡ commit_stage p 
       left_open m a e w =
           sym
           (ap (λ o. is_over (next_phase m (ph m) o)) w ∙ ap (λ b. is_over (cond b (after_write (ph m) a) (ph m))) (eq-eqb m m refl)
-          ∙ and_false (is_nil (but_last (ph m).unwritten)))
+          ∙ and-false (is_nil (but_last (ph m).unwritten)))
 
 -- A THREAD IN ITS STAGE
 

@@ -1,6 +1,7 @@
 -- On each path a memory is blocked, read and written no later than the stage of its releases; so what is released while that is to come is no younger.
 use Rattle.std.proofs.Common.{◌≡◌, refl, sym, ap, ap₂, ◌∙◌, subst, ℕ, ◌≤◌, ◌<◌, Bool, true, false, ◌&&◌, ◌||◌, not, List, [], ◌∷◌, ◌++◌, length, ◌==◌, nat_lt, nat_le, cond, arith, eq-eqb, ltb-true, ltb-false, leb-true, le_refl, le-leb, le-ltb}
 use Rattle.std.proofs.lemmas.Bool.{false≢true, eqb-true}
+use Rattle.std.proofs.Math.Bool.{and-false}
 use Rattle.pdl_semantics.specs.Flat.{Pipe, Op, CombRead, DelayedRead, Write, Block, Stmt, Expr, list_all, all_hold}
 use Rattle.pdl_semantics.specs.Stages.{list_any, onpath, is_release, commit_stage}
 use Rattle.pdl_semantics.specs.Machine.{State}
@@ -18,7 +19,7 @@ use Rattle.pdl_theory_states.specs.Strict.{Strict, lets_go, all_let_go}
 use Rattle.pdl_theory_states.specs.Use.{AllActs}
 use Rattle.pdl_theory_states.proofs.Trails.{AllStmts, stmts_map}
 use Rattle.pdl_machine_lockuse.specs.Use.{ReleasesOlder, UsesOlder, uses_mem}
-use Rattle.pdl_machine_lockuse.proofs.Paths.{and_false, one}
+use Rattle.pdl_machine_lockuse.proofs.Paths.{one}
 use Rattle.pdl_semantics.specs.Sound.{stages_from}
 
 -- THE ORDER OF A PATH
@@ -162,7 +163,7 @@ module _ (p : Pipe) (sound : Sound p) (path : List ℕ) where
       left_open m a e w =
           sym
           (ap (λ o. is_over (next_phase m (ph m) o)) w ∙ ap (λ b. is_over (cond b (after_write (ph m) a) (ph m))) (eq-eqb m m refl)
-          ∙ and_false (is_nil (but_last (ph m).unwritten)))
+          ∙ and-false (is_nil (but_last (ph m).unwritten)))
 
   all_path : (test : Stmt → Bool) → ((x : Stmt) → test (record x { guards = [] }) ≡ test x) → (xs : List Stmt) → list_all test xs ≡ true
       → list_all test (onpath path xs) ≡ true

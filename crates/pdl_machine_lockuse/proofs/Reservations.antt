@@ -1,6 +1,6 @@
 -- How often a phase has a variable: a location of a memory is reserved for writing at most once on a path.
 use Rattle.std.proofs.Common.{◌≡◌, refl, sym, ap, ap₂, ◌∙◌, subst, ℕ, suc, ◌+◌, ◌≤◌, Bool, true, false, ◌&&◌, ◌||◌, not, List, [], ◌∷◌, ◌++◌, length, Some, ◌==◌, cond, if◌then◌else◌, arith, slice_index}
-use Rattle.std.proofs.lemmas.Bool.{eqb-true}
+use Rattle.std.proofs.lemmas.Bool.{eqb-true, not-true}
 use Rattle.pdl_semantics.specs.Flat.{Op, Write, ReserveWrite, Release, Verify, Stmt, all_hold}
 use Rattle.pdl_semantics.specs.Stages.{onpath, is_write_reserve}
 use Rattle.pdl_semantics.specs.Machine.{Reserved, Deeds, deeds_after, deeds_after_all, reserves_of, same_args, checked_args}
@@ -9,7 +9,6 @@ use Rattle.pdl_theory_derived.proofs.Writes.{and_left, and_right}
 use Rattle.pdl_theory_facts.specs.Scans.{Phase, Fresh, after_write, after_reserve, after_release, may_write, is_new, next_phase, phase_all, write_reserves}
 use Rattle.pdl_theory_facts.proofs.Apart.{total, oldest_length, drop_length}
 use Rattle.pdl_machine_facts.proofs.StatementUses.{IsAlong}
-use Rattle.pdl_theory_turns.proofs.Phases.{not_false}
 use Rattle.pdl_theory_simulation.proofs.FlowFacts.{use_ok, uses_ok}
 
 -- a truth value as a number
@@ -78,9 +77,9 @@ uses_reserve ph a x = front (one_if (a == x)) (times x ph.unwritten) (times x ph
 pub uses_new : (ph : Phase) (a : ℕ) → is_new ph a ≡ true → uses ph a ≡ 0
 uses_new ph a h =
     let r = and_right (not (is_among a ph.unwritten)) _ h in
-    none (times_none a ph.unwritten (not_false _ (and_left (not (is_among a ph.unwritten)) _ h)))
-    (times_none a ph.full (not_false _ (and_left (not (is_among a ph.full)) _ r)))
-    (times_none a ph.gone (not_false _ (and_right (not (is_among a ph.full)) _ r)))
+    none (times_none a ph.unwritten (not-true _ (and_left (not (is_among a ph.unwritten)) _ h)))
+    (times_none a ph.full (not-true _ (and_left (not (is_among a ph.full)) _ r)))
+    (times_none a ph.gone (not-true _ (and_right (not (is_among a ph.full)) _ r)))
   where
     none : times a ph.unwritten ≡ 0 → times a ph.full ≡ 0 → times a ph.gone ≡ 0 → uses ph a ≡ 0
     none i j k = ap₂ (λ m n. m + n) i (ap₂ (λ m n. m + n) j k)

@@ -1,7 +1,7 @@
 -- Memories after the writes of advisory memories.
 use Rattle.std.proofs.Common.{◌≡◌, refl, sym, ap, ◌∙◌, subst, ℕ, zero, suc, ◌+◌, ◌^◌, ◌<◌, ◌≤◌, Bool, true, false, if◌then◌else◌, ◌==◌, List, [], ◌∷◌, map, length, slice_index, slice_set, ◌⊎◌, inl, inr}
 use mathlib.Core.Path.{fun_ext}
-use Rattle.std.proofs.lemmas.Bool.{eqb-true, eqb-false}
+use Rattle.std.proofs.lemmas.Bool.{eqb-true, eqb-false, cases_eq}
 use Rattle.std.proofs.lemmas.List.{length-set, get_or-set_same, get_or-set_other}
 use Rattle.pdl_semantics.specs.Flat.{Pipe, with_value, with_word}
 use Rattle.pdl_semantics.specs.Stages.{mem_at}
@@ -39,16 +39,9 @@ pending_kept (a ∷ ms) xs = pending_writes a.does.advises (after_all_writes ms 
 
 -- ROOM
 
-same_or : (i k : ℕ) → (i ≡ k) ⊎ (i ≡ k → ⊥)
-same_or i k = at (i == k) refl
-  where
-    at : (b : Bool) → (i == k) ≡ b → (i ≡ k) ⊎ (i ≡ k → ⊥)
-    at true e = inl (eqb-true i k e)
-    at false e = inr (eqb-false i k e)
-
 written_at : (xs : List Memory) (k i : ℕ) (y : Memory) (P : Memory → Type 0)
     → k < length xs → (i ≡ k → P y) → P (memory_at xs i) → P (memory_at (slice_set xs k y) i)
-written_at xs k i y P there here other = at (same_or i k)
+written_at xs k i y P there here other = at (cases_eq i k)
   where
     at : (i ≡ k) ⊎ (i ≡ k → ⊥) → P (memory_at (slice_set xs k y) i)
     at (inl e) = subst P (sym (ap (memory_at (slice_set xs k y)) e ∙ get_or-set_same xs k y no_memory there)) (here e)

@@ -1,6 +1,6 @@
 -- Stages of which some change places.
-use Rattle.std.proofs.Common.{◌≡◌, refl, sym, ap, ap₂, ◌∙◌, subst, ℕ, zero, suc, ◌+◌, ◌<◌, ◌≤◌, Bool, true, false, ◌==◌, if◌then◌else◌, List, [], ◌∷◌, ◌++◌, map, Option, Some, None, is_none, drop, length, get_or, set, ◌⊎◌, inl, inr, arith, ne_eqb, eq-eqb}
-use Rattle.std.proofs.lemmas.Bool.{eqb-true, eqb-false}
+use Rattle.std.proofs.Common.{◌≡◌, refl, sym, ap, ap₂, ◌∙◌, subst, ℕ, zero, suc, ◌+◌, ◌<◌, ◌≤◌, Bool, true, false, if◌then◌else◌, List, [], ◌∷◌, ◌++◌, map, Option, Some, None, is_none, drop, length, get_or, set, ◌⊎◌, inl, inr, arith, ne_eqb, eq-eqb}
+use Rattle.std.proofs.lemmas.Bool.{cases_eq}
 use Rattle.std.proofs.lemmas.List.{length-set, length-drop, drop_more, get_or_default, get_or-set_same, get_or-set_other}
 use Rattle.std.proofs.lemmas.List.Edits.{swapped_from_swap, length-swap}
 use Rattle.std.specs.List.{swap}
@@ -15,20 +15,13 @@ use Rattle.pdl_machine_run.specs.View.{deeds_view, thread_of, thread_if, thread_
 use Rattle.pdl_machine_run.specs.Acts.{act_here, all_of, mover_of, comes, stays}
 use Rattle.pdl_machine_run.specs.Ready.{IsStage, AreStages}
 
-same_or : (i k : ℕ) → (i ≡ k) ⊎ (i ≡ k → ⊥)
-same_or i k = at (i == k) refl
-  where
-    at : (b : Bool) → (i == k) ≡ b → (i ≡ k) ⊎ (i ≡ k → ⊥)
-    at true e = inl (eqb-true i k e)
-    at false e = inr (eqb-false i k e)
-
 -- the stage that was set, at a place that is equal to its own
 pub set_at : (xs : List r_stage.Stage) (k i : ℕ) (y d : r_stage.Stage) → i ≡ k → k < length xs → get_or (set xs k y) i d ≡ y
 set_at xs k i y d e h = ap (λ j. get_or (set xs k y) j d) e ∙ get_or-set_same xs k y d h
 
 -- stages are wide enough after one of them is set to one that is
 pub stages_set : (f : Form) (xs : List r_stage.Stage) (k : ℕ) (y : r_stage.Stage) → AreStages f xs → IsStage f y → AreStages f (set xs k y)
-stages_set f xs k y h here i d less = at (same_or i k)
+stages_set f xs k y h here i d less = at (cases_eq i k)
   where
     long : length (set xs k y) ≡ length xs
     long = length-set xs k y
@@ -43,7 +36,7 @@ pub removed_more : (sq : Option ℕ) (init now : List r_stage.Stage) (k : ℕ) (
     → ((i : ℕ) (d : r_stage.Stage) → k ≤ i → get_or now i d ≡ get_or init i d)
     → thread_in y.slot ≡ if_kept sq (thread_in (get_or now k x).slot)
     → (i : ℕ) (d : r_stage.Stage) → i < k + 1 → thread_in (get_or (set now k y) i d).slot ≡ if_kept sq (thread_in (get_or init i d).slot)
-removed_more sq init now k x y there done left e i d low = at (same_or i k)
+removed_more sq init now k x y there done left e i d low = at (cases_eq i k)
   where
     at : (i ≡ k) ⊎ (i ≡ k → ⊥) → thread_in (get_or (set now k y) i d).slot ≡ if_kept sq (thread_in (get_or init i d).slot)
     at (inl same) =
@@ -68,7 +61,7 @@ module _ (xs : List r_stage.Stage) (k q : ℕ) (hk : k < length xs) (hq : q < le
 
   -- after two stages change places all are wide enough, if they were before
   pub stages_swap : (f : Form) → AreStages f xs → AreStages f (swap xs k q)
-  stages_swap f h i d less = at (same_or i k) (same_or i q)
+  stages_swap f h i d less = at (cases_eq i k) (cases_eq i q)
     where
       at : (i ≡ k) ⊎ (i ≡ k → ⊥) → (i ≡ q) ⊎ (i ≡ q → ⊥) → IsStage f (get_or (swap xs k q) i d)
       at (inl e) o = subst (IsStage f) (sym (ap (λ j. get_or (swap xs k q) j d) e ∙ swapped_here d)) (h q d hq)
@@ -170,7 +163,7 @@ module _ (p : Pipe) where
         → thread_in (get_or new q d).slot ≡ or_then (comes p q j (mover_of (get_or now j d)) (get_or now j d)) (thread_in (get_or now q d).slot))
         → ((d : r_stage.Stage) → thread_in (get_or new j d).slot ≡ stays (get_or now j d))
         → (q : ℕ) (d : r_stage.Stage) → j ≤ q → q < length now → thread_in (get_or new q d).slot ≡ next_thread p q (all_of j (drop j init))
-    moved j init now new less count long left done there here q d low high = at (same_or q j)
+    moved j init now new less count long left done there here q d low high = at (cases_eq q j)
       where
         x : r_stage.Stage
         x = get_or init j d

@@ -1,11 +1,11 @@
 -- Registers and arrays stay within their widths.
-use Rattle.std.proofs.Common.{◌≡◌, ◌≢◌, ℕ, zero, suc, ◌^◌, ◌+◌, ◌<◌, ◌≤◌, List, [], ◌∷◌, length, get_or, set, refl, sym, ap, ◌∙◌, subst, arith, ⊎_elim, Bool, true, false, Some}
+use Rattle.std.proofs.Common.{◌≡◌, ◌≢◌, ℕ, zero, suc, ◌^◌, ◌+◌, ◌<◌, ◌≤◌, List, [], ◌∷◌, length, get_or, set, refl, ap, ◌∙◌, subst, arith, ⊎_elim, Bool, true, false, Some}
 use Rattle.std.specs.Prelude.{slice_get, ◌==◌, if◌then◌else◌}
 use Rattle.std.proofs.lemmas.List.{get_or-set_same, get_or-set_other, length-set, length-map, get_or-map, get_or_past}
 use Rattle.std.proofs.lemmas.Bool.{cases_lt, cases_eq}
 use Rattle.pdl_net.specs.declared.Reg.{Reg}
 use Rattle.pdl_net.specs.declared.WritePort.{WritePort}
-use Rattle.pdl_net.specs.Circuit.{Circuit, State, inputs_of, array_at, reg_at, no_reg, no_array}
+use Rattle.pdl_net.specs.Circuit.{Circuit, State, array_at, reg_at, no_reg, no_array}
 use Rattle.pdl_net.specs.Cycle.{net_value, after_writes, next_arrays, next_regs, arrays_from}
 use Rattle.pdl_net.specs.Well.{IsWell, IsWellWrite, Suits}
 use Rattle.pdl_net.specs.declared.Array.{Array}
@@ -27,19 +27,6 @@ arrays_at c s (m ∷ ms) k (suc j) h =
 arrays_length : (c : Circuit) (s : State) (ms : List Array) (k : ℕ) → length (arrays_from c s ms k) ≡ length ms
 arrays_length c s [] k = refl
 arrays_length c s (m ∷ ms) k = let e = arrays_length c s ms (suc k) in omega (arith, e)
-
--- where there are no inputs
-suits_of : (c : Circuit) (regs : List ℕ) (arrays : List (List ℕ)) → Holds c regs arrays
-    → inputs_of c ≡ [] → Suits c (record { inputs = []; regs = regs; arrays = arrays })
-suits_of c regs arrays h e = record {
-  input_count = sym (ap length e);
-  inputs = λ i l. let n = ap length e in absurd (omega (arith, n));
-  reg_count = h.reg_count;
-  regs = h.each;
-  array_count = h.array_count;
-  depth = h.depth;
-  words = h.words;
-}
 
 -- a word after a write
 set_below : (xs : List ℕ) (i v n : ℕ) → v < n → ((a : ℕ) → get_or xs a 0 < n) → (a : ℕ) → get_or (set xs i v) a 0 < n

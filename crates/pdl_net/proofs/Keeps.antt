@@ -146,9 +146,6 @@ arrays_trans a b c front back x y = record {
 pub means_kept : (a b : Circuit) (x : Net) (f : Signal) → Extends a b → Means a x f → Means b x f
 means_kept a b x f e m = record { there = e.there x m.there; same = e.kept x m.there ∙ m.same }
 
-but_means : (o : Own) (a b : Circuit) (x : Net) (f : Signal) → ExtendsBut o a b → Means a x f → Means b x f
-but_means o a b x f e m = record { there = e.there x m.there; same = e.kept x m.there ∙ m.same }
-
 -- a net means its signal in a circuit that keeps what it had
 pub means_keeps : (a b : Circuit) (x : Net) (f : Signal) → Keeps a b → Means a x f → Means b x f
 means_keeps a b x f e m = record { there = e.there x m.there; same = e.kept x m.there ∙ m.same }

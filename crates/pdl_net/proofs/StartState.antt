@@ -96,15 +96,6 @@ image_part_fits n image w count depth width =
           subst P (sym ((h.1 m l).width)) (subst (λ (r : List ℕ). get_or r a 0 < 2 ^ (get_or n.mems (k + m) no_mem).width) (part m) x);
     })
 
--- where no memory is delayed the whole does
-image_fits : (n : Netlist) (image : List (List ℕ)) → IsWellFormed n → delayed_mems n ≡ []
-    → length image ≡ length n.mems
-    → ((m : ℕ) (d : MemInfo) → m < length n.mems → length (get_or image m []) ≡ (get_or n.mems m d).depth)
-    → ((m : ℕ) (d : MemInfo) → m < length n.mems → (a : ℕ) → get_or (get_or image m []) a 0 < 2 ^ (get_or n.mems m d).width)
-    → ImageFits (circuit_of n) image
-image_fits n image w e count depth width =
-    subst (λ (ms : List MemInfo). ImageFits (circuit_of n) (drop (length ms) image)) e (image_part_fits n image w count depth width)
-
 -- no head among these is an input
 head_input : Head → Option ℕ
 head_input h = cond h.input (Some h.width) None

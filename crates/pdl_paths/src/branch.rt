@@ -35,3 +35,14 @@ pub fn guard_of<'a>(span: Span, condition: &'a Expr) -> Guard<'a>
         Expr::SignExtend(_, _) | Expr::Choose(_, _, _) => Guard::Own(span.start),
     }
 }
+
+/// Whether two guards are the same.
+pub fn is_same_guard(a: Guard<'_>, b: Guard<'_>) -> bool
+    ensures { result ≡ rules.same_guard (guard_view a.entry) (guard_view b.entry) }
+{
+    match (a, b) {
+        (Guard::Shared(x), Guard::Shared(y)) => *x == *y,
+        (Guard::Own(m), Guard::Own(n)) => m == n,
+        (Guard::Shared(_), Guard::Own(_)) | (Guard::Own(_), Guard::Shared(_)) => false,
+    }
+}

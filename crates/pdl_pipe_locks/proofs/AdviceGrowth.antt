@@ -156,7 +156,8 @@ advises_snoc m moves (y ∷ ys) x = at (y.mem == m) (advises_snoc m moves ys x)
     at false h = h
 
 -- the ports of one stage more, from the last stage on, come after those of the later stages
-pub advises_next : (m : ℕ) (vs : ℕ → View) (moves : ℕ → Signal) (n i k : ℕ) → i < n → k ≡ n - 1 - i
+pub advises_next : (m : ℕ) (vs : ℕ → View) (moves : ℕ → Signal) (n i k : ℕ)
+    → i < n → k ≡ n - 1 - i
     → all_advises m vs moves (i + 1) (n - (i + 1)) ≡ all_advises m vs moves i (n - i) ++ advises_to m (moves k) (vs k).ended.advises
 advises_next m vs moves n i k l e = let f = one_further (all_advises m vs moves) n i k l e in
     f.0 ∙ ap (λ xs. xs ++ advises_to m (moves k) (vs k).ended.advises) f.1

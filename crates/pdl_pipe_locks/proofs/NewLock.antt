@@ -54,9 +54,6 @@ arrays_are k n name m h =
 pub one_array : (name : List ℕ) (m : Mem) → is_delayed m.kind ≡ false → arrays_in name m ≡ shape_in name m ∷ []
 one_array name m e = ap (λ (b : Bool). if b then [] else shape_in name m ∷ []) e
 
-no_array_of : (name : List ℕ) (m : Mem) → is_delayed m.kind ≡ true → arrays_in name m ≡ []
-no_array_of name m e = ap (λ (b : Bool). if b then [] else shape_in name m ∷ []) e
-
 -- an array that is new, of this shape
 module _ (b c : Circuit) (x : Shape) (e : ExtendsArrays b c (x ∷ [])) where
   new_shape : get_or (shapes_of c) (length b.arrays) x ≡ x

@@ -3,7 +3,7 @@ use Rattle.std.proofs.Common.{◌≡◌, ◌≢◌, ◌<◌, ◌≤◌, ℕ, zer
 use Rattle.std.specs.Prelude.{◌⊎◌, slice_set}
 use Rattle.std.proofs.lemmas.Bool.{cases_lt}
 use Rattle.std.proofs.Common.{inl, inr}
-use Rattle.std.proofs.lemmas.List.{length-append, length-set, get_or-set_same, get_or-set_other}
+use Rattle.std.proofs.lemmas.List.{length-set, get_or-set_same, get_or-set_other}
 use Rattle.pdl_word.specs.Each.{Each}
 use Rattle.pdl_kit.specs.declared.seq.Seq.{Seq}
 use Rattle.pdl_semantics.specs.Flat.{Pipe}
@@ -54,18 +54,6 @@ at_last [] y zero e = refl
 at_last [] y (suc k) e = absurd (omega (arith, e))
 at_last (x ∷ xs) y zero e = absurd (omega (arith, e))
 at_last (x ∷ xs) y (suc k) e = at_last xs y k (omega (arith, e))
-
-padded_more : (nets : List Net) (fill : Net) (n : ℕ) (xs : List Net) (y : Net) → ArePadded nets fill n xs
-    → (n < length nets → y ≡ net_at nets n) → (length nets ≤ n → y ≡ fill) → ArePadded nets fill (n + 1) (xs ++ y ∷ [])
-padded_more nets fill n xs y h front rest = record {
-  count_is = length-append xs (y ∷ []) ∙ ap (λ i. i + 1) h.count_is;
-  front = λ k l m. at k m (cases_lt k n) (λ q. h.front k l q) (λ e. front (omega (arith, l, e)) ∙ ap (net_at nets) (sym e));
-  rest = λ k l m. at k m (cases_lt k n) (λ q. h.rest k l q) (λ e. rest (omega (arith, l, e)));
-}
-  where
-    at : (k : ℕ) {x : Net} → k < n + 1 → (k < n) ⊎ (n ≤ k) → (k < n → net_at xs k ≡ x) → (k ≡ n → y ≡ x) → net_at (xs ++ y ∷ []) k ≡ x
-    at k m (inl q) old new = at_first xs y k (let e = h.count_is in omega (arith, q, e)) ∙ old q
-    at k m (inr q) old new = at_last xs y k (let e = h.count_is in omega (arith, m, q, e)) ∙ new (omega (arith, m, q))
 
 -- ---- controls
 

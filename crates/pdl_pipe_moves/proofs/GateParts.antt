@@ -41,13 +41,6 @@ pub bits_keep : (a b : Circuit) (xs : List Net) → Keeps a b → Each (IsBit a)
 bits_keep a b [] e h = tt
 bits_keep a b (x ∷ xs) e h = (bit_keep a b x e h.0, bits_keep a b xs e h.1)
 
-both_for : (a b c : Circuit) (x y z : Net) (f g : Signal) → Keeps a b → IsBitFor a x f → IsBitFor b y g
-    → IsBitFor c z (both (signal b x) (signal b y)) → IsBitFor c z (both f g)
-both_for a b c x y z f g e h k r = record {
-  bit = r.bit;
-  on = λ s. r.on s ∙ both_as (signal b x) (signal b y) f g (λ t. ap (λ (i : Signal). is_on i t) (e.kept x h.bit.there) ∙ h.on t) k.on s;
-}
-
 -- a net that is 1 where two nets are, of which the second is from an earlier circuit, is 1 where both signals are
 pub both_after : (a b c : Circuit) (x y z : Net) (f g : Signal) → Keeps a b → IsBitFor b x f → IsBitFor a y g
     → IsBitFor c z (both (signal b x) (signal b y)) → IsBitFor c z (both f g)

@@ -163,14 +163,6 @@ spared_as p us vs k fs gs (Guess i) g same e (inl h) = inl (settled_as p us vs k
 spared_as p us vs k fs gs (Guess i) g same e (inr h) =
     inr record { x = h.x; twin = twin_as p us vs k i h.x same h.twin; is = h.is ∙ ap (λ l. signal_at l h.x) (sym e) }
 
--- what is settled needs none
-settled_spared : (p : Pipe) (us : ℕ → View) (k : ℕ) (fs : List Signal) (i : Item) (g : Signal) → IsSettled p us k i g
-    → IsSpared p us k fs i g
-settled_spared p us k fs (Var x) g h = h
-settled_spared p us k fs (Mark mark m a) g h = h
-settled_spared p us k fs (Ticket m) g h = h
-settled_spared p us k fs (Guess i) g h = inl h
-
 -- ---- lists of nets
 
 -- the signals of some nets and one more are their signals and its own

@@ -159,12 +159,6 @@ pub record MarksSoFar (a c : Circuit) (f : Form) (nexts : List Signal) (us : ℕ
   pub begun : AreMarksBegun c f nexts us k r hs
   pub still : AreStillListed hs0 hs
 
-marks_first : (a : Circuit) (f : Form) (nexts : List Signal) (us : ℕ → View) (k : ℕ) (r : StageRegs) (hs : List MarkNet)
-    → Extends a a → IsFrame a f nexts k r → AreOwn f k r → AreMarksBegun a f nexts us k r hs
-    → MarksSoFar a a f nexts us k r hs r hs
-marks_first a f nexts us k r hs x frame own begun =
-    record { extends = x; frame = frame; own = own; longer = longer_none r; begun = begun; still = λ mark m v q. q }
-
 own_mark : (f : Form) (k : ℕ) (mark : MarkKind) (m v : ℕ) → 0 < k → IsOwn f k (Mark mark m v)
 own_mark f Rattle.std.proofs.Common.zero mark m v l = absurd (omega (arith, l))
 own_mark f (Rattle.std.proofs.Common.suc k) mark m v l = tt
@@ -315,9 +309,6 @@ marks_as c f nexts us vs k r hs same h = record {
   begun = λ mark m v q. by_weaker f nexts r (Mark mark m v) _ (IsSettled f.pipe us k (Mark mark m v)) (IsSettled f.pipe vs k (Mark mark m v))
       (λ z. settled_as f.pipe us vs k (Mark mark m v) (mark_of (map (mark_in c) hs) mark m v) (same mark m v) z) (h.begun mark m v q);
 }
-
-marks_none : (c : Circuit) (f : Form) (nexts : List Signal) (us : ℕ → View) (k : ℕ) (r : StageRegs) → AreMarksBegun c f nexts us k r []
-marks_none c f nexts us k r = record { there = tt; one = tt; begun = λ mark m v q. absurd (false≢true q) }
 
 -- what is listed on the way from one circuit to the next
 pub marks_then : (a b c : Circuit) (f : Form) (nexts : List Signal) (us : ℕ → View) (k : ℕ) (r0 : StageRegs)

@@ -2,6 +2,7 @@
 use Rattle.std.proofs.Common.{◌≡◌, ℕ, zero, suc, ◌<◌, ◌≤◌, ◌==◌, Bool, true, false, ◌&&◌, ◌||◌, List, [], ◌∷◌, length, refl, sym, ap, ◌∙◌, subst, arith}
 use Rattle.std.specs.Prelude.{Option, Some, None, slice_index, if◌then◌else◌}
 use Rattle.std.proofs.lemmas.Bool.{eqb-true}
+use Rattle.std.proofs.lemmas.Option.{same_Some}
 use Rattle.pdl_semantics.specs.Flat.{Op, Stmt, DelayedRead}
 use Rattle.pdl_semantics.specs.Forms.{on_delayed_read}
 use Rattle.pdl_semantics.specs.Stages.{mem_at, stage_at}
@@ -17,9 +18,6 @@ pub record ReadsWord (f : Form) (m : ℕ) (r : Reading) : Type 0 where
   pub low : r.var < length f.widths
   pub wide : (mem_at f.pipe m).width ≡ slice_index f.widths r.var
 
-some_is : (a b : Reading) → Some a ≡ Some b → a ≡ b
-some_is a b e = cc e
-
 reads_in : (f : Form) (m : ℕ) (r : Reading) (xs : List Stmt) → AreTypedStmts f xs → reading_in m xs ≡ Some r → ReadsWord f m r
 reads_in f m r [] t is = absurd (cc is)
 reads_in f m r (x ∷ xs) t is = by x.op t.0.1 is (reads_in f m r xs t.1)
@@ -30,7 +28,7 @@ reads_in f m r (x ∷ xs) t is = by x.op t.0.1 is (reads_in f m r xs t.1)
     this y n w wide go false e h = go h
     this y n w wide go true e h =
         subst (ReadsWord f m)
-        (some_is (record { stage = x.stage; var = y }) r h) record { low = w; wide = ap (λ i. (mem_at f.pipe i).width) (sym (eqb-true n m e)) ∙ sym wide }
+        (same_Some (record { stage = x.stage; var = y }) r h) record { low = w; wide = ap (λ i. (mem_at f.pipe i).width) (sym (eqb-true n m e)) ∙ sym wide }
 
     by : (o : Op) → IsTypedOp f o
         → on_delayed_read (λ y n a. if n == m then Some (record { stage = x.stage; var = y }) else reading_in m xs) (reading_in m xs) o ≡ Some r

@@ -78,10 +78,6 @@ IsOwn f (suc k) (Guess i) = i < length f.pipe.start
 abbrev pub IsConstant : Signal → Type 0
 IsConstant f = (w v : ℕ) × (f ≡ const_signal w v)
 
--- as in a stage after another one, which ends with g for it: where that is constant it is the same
-abbrev pub IsSameConstant : Signal → Signal → Type 0
-IsSameConstant g f = IsConstant g × (f ≡ g)
-
 -- as in stage 0: a variable that is no parameter is zero, and no location has a mark
 abbrev pub IsZero : Pipe → Item → Signal → Type 0
 IsZero p (Var x) f = (length p.start ≤ x) × ((w : ℕ) × (f ≡ const_signal w 0))

@@ -31,12 +31,6 @@ asker_none on (suc n) e k h = more (asker on n) (on n) refl refl e (λ q l. aske
     more None false p q r rest =
         ⊎_elim (λ (l : k < n). rest p l) (λ (g : n ≤ k). let i : n ≡ k = omega arith in let P : ℕ → Type 0 = λ m. on m ≡ false in subst P i q) (cases_lt k n)
 
--- the owner of a place
-owned_is : (q : PortState) (k : ℕ) → owns q k ≡ true → q ≡ Owned k
-owned_is Idle k e = absurd (cc e)
-owned_is (Owned j) k e = ap Owned (eqb-true j k e)
-owned_is Orphan k e = absurd (cc e)
-
 -- the thread of a place owns the request after a cycle: it asks, or it owned it and is neither answered nor removed
 abbrev pub still : Bool → Bool → Bool → Bool
 still gone reply own = if gone then false else (if reply then false else own)

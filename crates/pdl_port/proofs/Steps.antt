@@ -79,10 +79,6 @@ places_next a b c l n f k h x y e o p = record {
       (λ j lt. let g = x.has_owns j (omega arith) in o.nexts (owns_at l j) (e.has_reg _ g) (inl (omega arith)) ∙ e.nexts (owns_at l j) g ∙ y.owns j lt);
 }
 
--- no place, so nothing to take
-places_nothing : (c : Circuit) (l : PortLayout) (f : StepSignals) → NextPlaces c l f 0
-places_nothing c l f = record { owns = λ k h. absurd (omega arith) }
-
 -- whether an orphan is left by one place more
 pub orphan_net : (a b m n d : Circuit) (l : PortLayout) (r : PortRegs) (p : PortStep) (k : ℕ)
     (one nought orphan open_net left removed next : Net)

@@ -12,7 +12,7 @@ ghost use Rattle.pdl_rules_forks.specs.Order.{is_wrong_fork as spec_wrong_fork, 
 
 use crate::inside::{holds_separator, left_after};
 use pdl_kit::Name;
-use pdl_paths::{Action, Branch, Place, branches_at, is_separator};
+use pdl_paths::{Action, Branch, Place, branches_at, is_locked, is_separator};
 use pdl_rules_stages::{are_outer, begun_before, stage_in};
 use pdl_syntax_tree::{Mem, Pipe, Stmt, is_advisory};
 
@@ -189,18 +189,6 @@ pub fn breaks_f4(pipe: &Pipe, place: &Place<'_>) -> bool
         Action::Update(_, _) => false,
         Action::SpecCheck | Action::SpecBarrier | Action::End | Action::StartClause(_) => false,
     }
-}
-
-// Whether the memory of this name has a lock.
-fn is_locked(mems: &[Mem], name: &Name) -> bool
-    ensures { result ≡ locks.is_locked (map mem_view mems.now) name.now }
-{
-    for mem in mems {
-        if mem.name.name == *name {
-            return mem.lock.is_some();
-        }
-    }
-    false
 }
 
 /// Whether the place reserves, blocks, writes or releases a memory without lock; one that is advisory is written without.

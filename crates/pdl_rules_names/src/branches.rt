@@ -3,9 +3,9 @@ ghost use Rattle.std.specs.Prelude.{◌≡◌, List, true, map};
 ghost use Rattle.std.specs.List.{list_all};
 ghost use Rattle.pdl_rules.specs.Places as rules;
 ghost use Rattle.pdl_paths.specs.Actions.{place_view};
-ghost use Rattle.pdl_paths.specs.Guards.{branch_view, guard_view};
+ghost use Rattle.pdl_paths.specs.Guards.{branch_view};
 
-use pdl_paths::{Action, Branch, Guard, Place};
+use pdl_paths::{Action, Branch, Place, is_same_guard};
 
 /// Whether a place stands in each branch that another stands in, so that each path through it leads through the other.
 pub fn is_inside(place: &Place<'_>, other: &Place<'_>) -> bool
@@ -60,14 +60,4 @@ fn is_same(a: &Branch<'_>, b: &Branch<'_>) -> bool
         rules.is_taken path (branch_view a.now) ≡ rules.is_taken path (branch_view b.now) }
 {
     a.truth == b.truth && is_same_guard(a.guard, b.guard)
-}
-
-fn is_same_guard(a: Guard<'_>, b: Guard<'_>) -> bool
-    ensures { result ≡ rules.same_guard (guard_view a.entry) (guard_view b.entry) }
-{
-    match (a, b) {
-        (Guard::Shared(x), Guard::Shared(y)) => *x == *y,
-        (Guard::Own(m), Guard::Own(n)) => m == n,
-        (Guard::Shared(_), Guard::Own(_)) | (Guard::Own(_), Guard::Shared(_)) => false,
-    }
 }

@@ -1,6 +1,5 @@
 -- The line of the lowest place.
 use Rattle.std.proofs.Common.{◌≡◌, refl, sym, ap, ◌∙◌, subst, ℕ, zero, suc, ◌+◌, ◌<◌, Bool, true, false, List, [], ◌∷◌, ◌++◌, map, take, drop, length, get_or, slice_get, Option, Some, None, if◌then◌else◌, arith, append_assoc, append-nil, option_map, ◌⊎◌, inl, inr}
-use Rattle.std.proofs.lemmas.List.{drop_more}
 use Rattle.std.proofs.Math.Nat.{eq-or-lt_of_le}
 use Rattle.pdl_kit.specs.declared.rule.Rule.{Rule}
 use Rattle.pdl_semantics.specs.Tree.{Pipe}
@@ -9,6 +8,7 @@ use Rattle.pdl_rules.specs.Parts.{is_some_and}
 use Rattle.pdl_rules.specs.Refusal.{breaks_rule, broken_line}
 use Rattle.pdl_rules_on_paths.specs.Lowest.{line_where, first_line, breaks_at, nth_line, IsLowest}
 use Rattle.pdl_rules_on_paths.proofs.Nth.{past_last}
+use Rattle.pdl_semantics.proofs.Lists.{drop_next}
 
 -- the lines of a rule of the definitions
 pub rule_lines : (r : Rule) (p : Pipe) (before xs : List Place) → line_where (breaks_rule r p) before xs ≡ broken_line r p before xs
@@ -33,17 +33,13 @@ first_lines f test same before (x ∷ xs) =
     ap (λ b. if b then Some (line_of x) else first_line test xs) (sym (same before x))
     ∙ ap (λ later. if f before x then Some (line_of x) else later) (first_lines f test same (before ++ x ∷ []) xs)
 
--- the elements from the k-th on are it and those after it
-from_here : {A : Type 0} (xs : List A) (k : ℕ) (x : A) → k < length xs → x ≡ get_or xs k x → drop k xs ≡ x ∷ drop (k + 1) xs
-from_here xs k x h e = drop_more xs k x h ∙ ap (λ z. z ∷ drop (k + 1) xs) (sym e)
-
 -- where the k-th place passes a test, and none before it does, its line is the first
 pub first_found : {A : Type 0} (test : Place → Bool) (view : A → Place) (xs : List A) (k : ℕ) (x : A) (whole : Option ℕ)
     → k < length xs → x ≡ get_or xs k x → test (view x) ≡ true → first_line test (map view (drop k xs)) ≡ whole
     → Some (line_of (view x)) ≡ whole
 first_found test view xs k x whole h e is inv =
     sym (ap (λ b. if b then Some (line_of (view x)) else first_line test (map view (drop (k + 1) xs))) is)
-    ∙ sym (ap (λ ys. first_line test (map view ys)) (from_here xs k x h e))
+    ∙ sym (ap (λ ys. first_line test (map view ys)) (drop_next xs k x h e))
     ∙ inv
 
 -- where the k-th place fails a test, the first line from it on is that after it
@@ -52,7 +48,7 @@ pub first_passed : {A : Type 0} (test : Place → Bool) (view : A → Place) (xs
     → first_line test (map view (drop (k + 1) xs)) ≡ whole
 first_passed test view xs k x whole h e is inv =
     sym (ap (λ b. if b then Some (line_of (view x)) else first_line test (map view (drop (k + 1) xs))) is)
-    ∙ sym (ap (λ ys. first_line test (map view ys)) (from_here xs k x h e))
+    ∙ sym (ap (λ ys. first_line test (map view ys)) (drop_next xs k x h e))
     ∙ inv
 
 -- places after others

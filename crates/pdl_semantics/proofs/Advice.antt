@@ -1,19 +1,12 @@
 -- What advisory memories hold changes no write.
-use Rattle.std.proofs.Common.{◌≡◌, refl, sym, ap, ap₂, ◌∙◌, subst, ℕ, zero, suc, ◌+◌, ◌⊎◌, inl, inr, Bool, true, false, ◌&&◌, not, List, [], ◌∷◌, ◌++◌, ◌==◌, cond, if◌then◌else◌, arith, slice_index, slice_set, append_assoc, length}
-use Rattle.std.proofs.lemmas.Bool.{eqb-true}
+use Rattle.std.proofs.Common.{◌≡◌, refl, sym, ap, ap₂, ◌∙◌, subst, ℕ, zero, suc, ◌+◌, ◌⊎◌, inl, inr, Bool, true, false, not, List, [], ◌∷◌, ◌++◌, ◌==◌, cond, if◌then◌else◌, arith, slice_index, slice_set, append_assoc, length}
+use Rattle.std.proofs.lemmas.Bool.{eqb-true, not-true, and_parts}
 use Rattle.pdl_semantics.specs.Flat.{Arrays, Array, with_value, word_at, is_advisory, list_all, Op, Bind, CombRead, DelayedRead, Write, Call, Verify, Stmt, Pipe, Commit, of_mem, all_hold, value_of, values_of}
 use Rattle.pdl_semantics.specs.Stages.{mem_at}
 use Rattle.pdl_semantics.specs.Sequential.{Run, run_after, run_all, thread, writes_from, seqwrites}
 use Rattle.pdl_semantics.specs.Cycle.{turns, commits, ended_in}
 use Rattle.pdl_semantics.specs.Promises.{IsPrefix, Refines, DifferInAdvice, AdviceIsIdle, fits_kind, KeepsAdvice}
-
-and_both : (b c : Bool) → (b && c) ≡ true → (b ≡ true) × (c ≡ true)
-and_both true c h = (refl, h)
-and_both false c h = absurd (cc h)
-
-not_so : (b : Bool) → not b ≡ true → b ≡ false
-not_so true h = absurd (cc h)
-not_so false h = refl
+use Rattle.pdl_semantics.proofs.Facts.{of_mem_append}
 
 -- two runs with the same values, writes and successor, whose arrays differ in advisory memories alone
 record Alike (p : Pipe) (r s : Run) : Type 0 where
@@ -26,7 +19,7 @@ alike_read : (p : Pipe) (x m a : ℕ) (r s : Run) → not (is_advisory (mem_at p
     → Alike p (record r { env = slice_set r.env x (word_at r.arrays m (slice_index r.env a)) }) (record s { env = slice_set s.env x (word_at s.arrays m (slice_index s.env a)) })
 alike_read p x m a r s h f = record {
   arrays = f.arrays;
-  env = ap₂ (λ (w : Array) e. slice_set e x (w (slice_index e a))) (f.arrays m (not_so _ h)) f.env;
+  env = ap₂ (λ (w : Array) e. slice_set e x (w (slice_index e a))) (f.arrays m (not-true _ h)) f.env;
   writes = f.writes;
   next = f.next;
 }
@@ -55,7 +48,7 @@ alike_op p _ r s h f = f
 alike_all : (p : Pipe) (xs : List Stmt) (r s : Run) → list_all (λ x. fits_kind p x.op) xs ≡ true → Alike p r s → Alike p (run_all xs r) (run_all xs s)
 alike_all p [] r s h f = f
 alike_all p (x ∷ xs) r s h f =
-    let k = and_both (fits_kind p x.op) _ h in
+    let k = and_parts (fits_kind p x.op) _ h in
     alike_all p xs (if all_hold x.guards r.env then run_after x.op r else r) (if all_hold x.guards s.env then run_after x.op s else s) k.1
     (at (all_hold x.guards r.env) (all_hold x.guards s.env) (ap (all_hold x.guards) f.env) k.0)
   where
@@ -85,16 +78,6 @@ same_seq p image other h f m k = ap (of_mem m) (same_writes p k image other p.st
 
 -- PREFIXES
 
-mem_append : (m : ℕ) (xs ys : List Commit) → of_mem m (xs ++ ys) ≡ of_mem m xs ++ of_mem m ys
-mem_append m [] ys = refl
-mem_append m (x ∷ xs) ys = at (x.mem == m) (mem_append m xs ys)
-  where
-    at : (b : Bool)
-        → of_mem m (xs ++ ys) ≡ of_mem m xs ++ of_mem m ys
-        → cond b (x ∷ of_mem m (xs ++ ys)) (of_mem m (xs ++ ys)) ≡ cond b (x ∷ of_mem m xs) (of_mem m xs) ++ of_mem m ys
-    at true e = ap (λ l. x ∷ l) e
-    at false e = e
-
 more_writes : (p : Pipe) (k j : ℕ) (arrays : Arrays) (args : List ℕ)
     → (rest : List Commit) × (writes_from p k arrays args ++ rest ≡ writes_from p (k + j) arrays args)
 more_writes p zero j arrays args = (writes_from p j arrays args, ap (λ n. writes_from p n arrays args) (let e : j ≡ 0 + j = omega arith in e))
@@ -110,7 +93,7 @@ more_writes p (suc k) j arrays args =
 more_seq : (p : Pipe) (image : Arrays) (m k j : ℕ) → IsPrefix (seqwrites p image m k) (seqwrites p image m (k + j))
 more_seq p image m k j =
     let r = more_writes p k j image p.start in
-    (of_mem m r.0, sym (mem_append m (writes_from p k image p.start) r.0) ∙ ap (of_mem m) r.1)
+    (of_mem m r.0, sym (of_mem_append m (writes_from p k image p.start) r.0) ∙ ap (of_mem m) r.1)
 
 then_prefix : (xs ys zs : List Commit) → IsPrefix xs ys → IsPrefix ys zs → IsPrefix xs zs
 then_prefix xs ys zs a b = (a.0 ++ b.0, sym (append_assoc xs a.0 b.0) ∙ ap (λ l. l ++ b.0) a.1 ∙ b.1)

@@ -1,5 +1,6 @@
 -- What a thread does but for its guess and its advisory writes doesn't hang on what advisory memories say: advised values reach nothing else.
-use Rattle.std.proofs.Common.{◌≡◌, refl, sym, ap, ap₂, ◌∙◌, ℕ, Bool, true, false, ◌&&◌, not, List, [], ◌∷◌, ◌++◌, Some, cond, if◌then◌else◌, slice_index, slice_set}
+use Rattle.std.proofs.Common.{◌≡◌, refl, sym, ap, ap₂, ◌∙◌, ℕ, Bool, true, false, List, [], ◌∷◌, ◌++◌, Some, cond, if◌then◌else◌, slice_index, slice_set}
+use Rattle.std.proofs.lemmas.Bool.{not-true, and_parts}
 use Rattle.pdl_semantics.specs.Flat.{is_advisory, list_all, Op, Bind, CombRead, DelayedRead, Write, ReserveRead, ReserveWrite, Block, Release, Call, SpecCall, Verify, SpecCheck, SpecBarrier, AdviceBind, AdviceRead, AdviceWrite, Stmt, Pipe, all_hold, value_of}
 use Rattle.pdl_semantics.specs.Stages.{in_stage, mem_at}
 use Rattle.pdl_semantics.specs.Machine.{Deeds, Thread, deeds_after, deeds_after_all, deeds_with, held_after, held_before, is_held, same_args, with_kept, checked_args}
@@ -19,14 +20,6 @@ pub record Alike (d e : Deeds) : Type 0 where
 -- words that are the same in the other memories
 abbrev pub SameWords : Pipe → (ℕ → ℕ → ℕ) → (ℕ → ℕ → ℕ) → Type 0
 SameWords p read other = (m a : ℕ) → is_advisory (mem_at p m).kind ≡ false → read m a ≡ other m a
-
-not_so : (b : Bool) → not b ≡ true → b ≡ false
-not_so true h = absurd (cc h)
-not_so false h = refl
-
-and_both : (b c : Bool) → (b && c) ≡ true → (b ≡ true) × (c ≡ true)
-and_both true c h = (refl, h)
-and_both false c h = absurd (cc h)
 
 -- only what is left out changes
 still : (d d' e e' : Deeds)
@@ -63,7 +56,7 @@ alike_op p read other w (Bind x a) r d e h =
     }
 alike_op p read other w (CombRead x m a) r d e h =
     record {
-      env = ap (λ v. slice_set v x (read m (slice_index v a))) h.env ∙ ap (slice_set e.env x) (w m (slice_index e.env a) (not_so _ r));
+      env = ap (λ v. slice_set v x (read m (slice_index v a))) h.env ∙ ap (slice_set e.env x) (w m (slice_index e.env a) (not-true _ r));
       held = h.held;
       blocks = h.blocks;
       reserves = h.reserves;
@@ -182,7 +175,7 @@ alike_all p read other w (x ∷ xs) r d e h =
     (at (all_hold x.guards d.env) (all_hold x.guards e.env) (ap (all_hold x.guards) h.env))
   where
     k : (fits_kind p x.op ≡ true) × (list_all (λ (x : Stmt). fits_kind p x.op) xs ≡ true)
-    k = and_both (fits_kind p x.op) _ r
+    k = and_parts (fits_kind p x.op) _ r
 
     at : (b c : Bool) → b ≡ c → Alike (cond b (deeds_after read x.op d) d) (cond c (deeds_after other x.op e) e)
     at true true i = alike_op p read other w x.op k.0 d e h

@@ -1,8 +1,8 @@
 -- Facts on the definitions that several layers cite.
-use Rattle.std.proofs.Common.{◌≡◌, refl, sym, ap, ◌∙◌, ℕ, suc, ◌≤◌, Bool, true, false, ◌&&◌, List, [], ◌∷◌, ◌++◌, length, if◌then◌else◌, nat_lt, ◌==◌, Some, arith, le-ltb, zero, cond, ap₂, Option, None}
+use Rattle.std.proofs.Common.{◌≡◌, refl, sym, ap, ◌∙◌, ℕ, suc, ◌≤◌, Bool, true, false, ◌&&◌, List, [], ◌∷◌, ◌++◌, length, if◌then◌else◌, nat_lt, ◌==◌, Some, arith, le-ltb, zero, cond, ap₂, Option, None, append_assoc}
 use Rattle.std.proofs.Math.Bool.{and_assoc, and-true}
 use Rattle.std.specs.Option.{is_some}
-use Rattle.pdl_semantics.specs.Flat.{Stmt, all_hold, list_all, has_lock, Pipe, Arrays}
+use Rattle.pdl_semantics.specs.Flat.{Stmt, all_hold, list_all, has_lock, Pipe, Arrays, Commit, of_mem, Branch}
 use Rattle.pdl_semantics.specs.Machine.{Pending, Written, HeldLocation, held_after, held_before, State, Kept, with_kept}
 use Rattle.pdl_semantics.specs.Cycle.{with_value_of, with_writes_of, entries_left, cycle, state_after}
 use Rattle.pdl_semantics.specs.Tree as tree
@@ -12,7 +12,7 @@ use Rattle.pdl_semantics.specs.PendingLists.{count_older}
 use Rattle.pdl_semantics.specs.Sequential.{thread, turn_at}
 use Rattle.std.specs.Prelude.{slice_set}
 use Rattle.std.proofs.lemmas.List.{length-set}
-use Rattle.pdl_semantics.specs.Stages.{merges_fork}
+use Rattle.pdl_semantics.specs.Stages.{merges_fork, sides_of}
 use Rattle.std.proofs.lemmas.Bool.{eqb-true, false≢true}
 use Rattle.pdl_word.specs.Words.{widest}
 
@@ -113,3 +113,21 @@ kept_long (x ∷ xs) env = kept_long xs (slice_set env x.var x.word) ∙ length-
 pub merges_some : (o : Option ℕ) (f : ℕ) → merges_fork o f ≡ true → o ≡ Some f
 merges_some None f h = absurd (false≢true h)
 merges_some (Some g) f h = ap Some (eqb-true g f h)
+
+-- the writes to m in two lists are those of the one and then those of the other
+pub of_mem_append : (m : ℕ) (xs ys : List Commit) → of_mem m (xs ++ ys) ≡ of_mem m xs ++ of_mem m ys
+of_mem_append m [] ys = refl
+of_mem_append m (x ∷ xs) ys = at (x.mem == m) (of_mem_append m xs ys)
+  where
+    at : (b : Bool)
+        → of_mem m (xs ++ ys) ≡ of_mem m xs ++ of_mem m ys
+        → cond b (x ∷ of_mem m (xs ++ ys)) (of_mem m (xs ++ ys)) ≡ cond b (x ∷ of_mem m xs) (of_mem m xs) ++ of_mem m ys
+    at true e = ap (λ l. x ∷ l) e
+    at false e = e
+
+-- of two lists of branches those of a fork are those of the one and then those of the other
+pub sides_append : (f : ℕ) (xs ys : List Branch) → sides_of f (xs ++ ys) ≡ sides_of f xs ++ sides_of f ys
+sides_append f [] ys = refl
+sides_append f (x ∷ xs) ys =
+    ap (λ l. (if x.fork == f then x.first ∷ [] else []) ++ l) (sides_append f xs ys)
+    ∙ sym (append_assoc (if x.fork == f then x.first ∷ [] else []) (sides_of f xs) (sides_of f ys))

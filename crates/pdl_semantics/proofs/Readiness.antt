@@ -1,5 +1,6 @@
 -- When reads and writes through a lock are ready, and what they find: all that proofs need of the kinds of lock, so that no proof above tells them apart.
 use Rattle.std.proofs.Common.{◌≡◌, refl, ap, ℕ, ◌+◌, ◌≤◌, Bool, true, false, not, Option, Some, None, is_none, arith, leb-true, le-leb}
+use Rattle.std.proofs.lemmas.Bool.{not-true}
 use Rattle.pdl_semantics.specs.Flat.{Lock, Plain, Queue, Bypass, Rename}
 use Rattle.pdl_semantics.specs.Locks.{Latest, Nothing, Coming, Known, as_latest, is_nothing, is_coming, read_ready, write_ready, is_plain, is_exact, has_room}
 
@@ -25,10 +26,6 @@ calm_value (Some v) (Some u) f = ((λ h. absurd (cc h)), (λ h. refl))
 still_known : (a b : Bool) → (a ≡ false → b ≡ false) → not a ≡ true → not b ≡ true
 still_known true b f e = absurd (cc e)
 still_known false b f e = ap not (f refl)
-
-is_known : (a : Bool) → not a ≡ true → a ≡ false
-is_known true e = absurd (cc e)
-is_known false e = refl
 
 -- a read waits for no pending write where there is none
 pub read_free : (k : Lock) → read_ready k Nothing ≡ true
@@ -57,8 +54,8 @@ read_known Plain l p h = ap is_coming (p refl)
 read_known (Queue n) Nothing p h = refl
 read_known (Queue n) Coming p h = absurd (cc h)
 read_known (Queue n) (Known v) p h = refl
-read_known (Bypass n) l p h = is_known (is_coming l) h
-read_known (Rename n) l p h = is_known (is_coming l) h
+read_known (Bypass n) l p h = not-true (is_coming l) h
+read_known (Rename n) l p h = not-true (is_coming l) h
 
 -- an exact lock's ready read finds no pending write
 pub exact_none : (k : Lock) (l : Latest) → is_exact k ≡ true → (is_plain k ≡ true → l ≡ Nothing) → read_ready k l ≡ true → l ≡ Nothing

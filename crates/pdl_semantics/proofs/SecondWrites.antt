@@ -1,17 +1,9 @@
 -- A memory that no path reserves twice for writing has at most one write reservation on each path.
 use Rattle.std.proofs.Common.{◌≡◌, refl, sym, ap, ap₂, ◌∙◌, ℕ, suc, ◌≤◌, Bool, true, false, ◌&&◌, ◌||◌, not, List, [], ◌∷◌, ◌++◌, ◌==◌, cond, slice_index, arith}
-use Rattle.std.proofs.lemmas.Bool.{eqb-true}
+use Rattle.std.proofs.lemmas.Bool.{eqb-true, and_parts, or_parts}
 use Rattle.pdl_semantics.specs.Flat.{Guard, Stmt, list_all, takes_branch, all_hold}
 use Rattle.pdl_semantics.specs.Stages.{list_any, onpath, is_write_reserve}
 use Rattle.pdl_semantics.specs.SecondWrites.{write_reserves, same_truth, agrees_with, are_consistent, reserves_too, reserves_twice}
-
-both : (b c : Bool) → (b && c) ≡ true → (b ≡ true) × (c ≡ true)
-both true c h = (refl, h)
-both false c h = absurd (cc h)
-
-neither : (b c : Bool) → (b || c) ≡ false → (b ≡ false) × (c ≡ false)
-neither true c h = absurd (cc h)
-neither false c h = (refl, h)
 
 -- GUARDS THAT HOLD ON ONE PATH
 
@@ -35,20 +27,20 @@ agree_all : (path : List ℕ) (g : Guard) (hs : List Guard) → takes_branch g.f
     → all_hold hs path ≡ true → list_all (agrees_with g) hs ≡ true
 agree_all path g [] e f = refl
 agree_all path g (h ∷ hs) e f =
-    let k = both (takes_branch h.first (slice_index path h.var)) (all_hold hs path) f in
+    let k = and_parts (takes_branch h.first (slice_index path h.var)) (all_hold hs path) f in
     ap₂ (λ a b. a && b) (agree_here path g h e k.0) (agree_all path g hs e k.1)
 
 -- guards that hold on a path are consistent
 consistent_here : (path : List ℕ) (gs : List Guard) → all_hold gs path ≡ true → are_consistent gs ≡ true
 consistent_here path [] h = refl
 consistent_here path (g ∷ gs) h =
-    let k = both (takes_branch g.first (slice_index path g.var)) (all_hold gs path) h in
+    let k = and_parts (takes_branch g.first (slice_index path g.var)) (all_hold gs path) h in
     ap₂ (λ a b. a && b) (agree_all path g gs k.0 k.1) (consistent_here path gs k.1)
 
 hold_both : (path : List ℕ) (gs hs : List Guard) → all_hold gs path ≡ true → all_hold hs path ≡ true → all_hold (gs ++ hs) path ≡ true
 hold_both path [] hs e f = f
 hold_both path (g ∷ gs) hs e f =
-    let k = both (takes_branch g.first (slice_index path g.var)) (all_hold gs path) e in
+    let k = and_parts (takes_branch g.first (slice_index path g.var)) (all_hold gs path) e in
     ap₂ (λ a b. a && b) k.0 (hold_both path gs hs k.1 f)
 
 -- WRITE RESERVATIONS
@@ -58,7 +50,7 @@ none_more : (m : ℕ) (path : List ℕ) (gs : List Guard) (xs : List Stmt) → a
     → list_any (reserves_too m gs) xs ≡ false → write_reserves m (onpath path xs) ≡ 0
 none_more m path gs [] e h = refl
 none_more m path gs (x ∷ xs) e h =
-    let k = neither (reserves_too m gs x) (list_any (reserves_too m gs) xs) h in
+    let k = or_parts (reserves_too m gs x) (list_any (reserves_too m gs) xs) h in
     at (all_hold x.guards path) refl (none_more m path gs xs e k.1) k.0
   where
     other : (b c : Bool) → c ≡ true → (b && c) ≡ false → b ≡ false
@@ -77,7 +69,7 @@ none_more m path gs (x ∷ xs) e h =
 pub single_reserve : (m : ℕ) (path : List ℕ) (xs : List Stmt) → reserves_twice m xs ≡ false → write_reserves m (onpath path xs) ≤ 1
 single_reserve m path [] h = omega arith
 single_reserve m path (x ∷ xs) h =
-    let k = neither (is_write_reserve m x.op && list_any (reserves_too m x.guards) xs) (reserves_twice m xs) h in
+    let k = or_parts (is_write_reserve m x.op && list_any (reserves_too m x.guards) xs) (reserves_twice m xs) h in
     at (all_hold x.guards path) refl (by (is_write_reserve m x.op) k.0 (single_reserve m path xs k.1)) (single_reserve m path xs k.1)
   where
     by : (b : Bool) → (b && list_any (reserves_too m x.guards) xs) ≡ false → write_reserves m (onpath path xs) ≤ 1 → all_hold x.guards path ≡ true

@@ -1,10 +1,11 @@
 -- A pipe without its updates writes the same in sequence; so where both refine it, what both commit begins one list.
-use Rattle.std.proofs.Common.{◌≡◌, refl, sym, ap, ◌∙◌, subst, ℕ, zero, suc, ◌+◌, Bool, true, false, List, [], ◌∷◌, ◌++◌, if◌then◌else◌, ◌==◌, cond, length, append_assoc, arith}
+use Rattle.std.proofs.Common.{◌≡◌, refl, sym, ap, ◌∙◌, subst, ℕ, zero, suc, ◌+◌, Bool, true, false, List, [], ◌∷◌, ◌++◌, if◌then◌else◌, cond, length, append_assoc, arith}
 use Rattle.pdl_semantics.specs.Flat.{Arrays, Op, Verify, Stmt, Pipe, Commit, all_hold, of_mem}
 use Rattle.pdl_semantics.specs.Sequential.{Run, run_after, run_all, thread, writes_from, seqwrites}
 use Rattle.pdl_semantics.specs.Cycle.{turns, ended_in}
 use Rattle.pdl_semantics.specs.Promises.{IsPrefix, Refines}
 use Rattle.pdl_semantics.specs.Updates.{is_update, without_updates, not_updated, WritesAlike, CommitsAlike}
+use Rattle.pdl_semantics.proofs.Facts.{of_mem_append}
 
 -- an update does nothing
 update_idle : (op : Op) (r : Run) → is_update op ≡ true → run_after op r ≡ r
@@ -50,17 +51,6 @@ writes_alike p (suc k) arrays args =
 pub seq_alike : (p : Pipe) (image : Arrays) → WritesAlike p image
 seq_alike p image m k = ap (of_mem m) (writes_alike p k image p.start)
 
--- more threads write more
-of_both : (m : ℕ) (xs ys : List Commit) → of_mem m (xs ++ ys) ≡ of_mem m xs ++ of_mem m ys
-of_both m [] ys = refl
-of_both m (x ∷ xs) ys = at (x.mem == m) (of_both m xs ys)
-  where
-    at : (b : Bool)
-        → of_mem m (xs ++ ys) ≡ of_mem m xs ++ of_mem m ys
-        → (if b then x ∷ of_mem m (xs ++ ys) else of_mem m (xs ++ ys)) ≡ (if b then x ∷ of_mem m xs else of_mem m xs) ++ of_mem m ys
-    at true h = ap (λ l. x ∷ l) h
-    at false h = h
-
 more_from : (p : Pipe) (m a b : ℕ) (arrays : Arrays) (args : List ℕ)
     → IsPrefix (of_mem m (writes_from p a arrays args)) (of_mem m (writes_from p (a + b) arrays args))
 more_from p m zero b arrays args =
@@ -71,8 +61,8 @@ more_from p m (suc a) b arrays args =
     subst (λ n. IsPrefix (of_mem m (writes_from p (suc a) arrays args)) (of_mem m (writes_from p n arrays args)))
     (let e : suc (a + b) ≡ suc a + b = omega arith in e) (
       k.0,
-      ap (λ l. l ++ k.0) (of_both m r.writes (writes_from p a r.arrays r.next)) ∙ append_assoc (of_mem m r.writes) _ k.0 ∙ ap (λ l. of_mem m r.writes ++ l) k.1
-          ∙ sym (of_both m r.writes (writes_from p (a + b) r.arrays r.next)),
+      ap (λ l. l ++ k.0) (of_mem_append m r.writes (writes_from p a r.arrays r.next)) ∙ append_assoc (of_mem m r.writes) _ k.0 ∙ ap (λ l. of_mem m r.writes ++ l) k.1
+          ∙ sym (of_mem_append m r.writes (writes_from p (a + b) r.arrays r.next)),
     )
 
 prefix_on : (xs ys zs : List Commit) → IsPrefix xs ys → IsPrefix ys zs → IsPrefix xs zs

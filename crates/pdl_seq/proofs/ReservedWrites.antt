@@ -1,12 +1,12 @@
 -- On a path that uses the lock of a memory as the rules say, a thread writes that memory at most as often as it reserves it.
 use Rattle.std.proofs.Common.{◌≡◌, refl, sym, ap, ◌∙◌, subst, ℕ, ◌+◌, ◌≤◌, Bool, true, false, ◌||◌, not, cond, if◌then◌else◌, ◌==◌, List, [], ◌∷◌, ◌++◌, length, length-append, suc, arith}
-use Rattle.std.proofs.lemmas.Bool.{false≢true}
 use Rattle.pdl_semantics.specs.Flat.{Op, Bind, CombRead, DelayedRead, Write, ReserveRead, ReserveWrite, Block, Release, Call, SpecCall, Verify, SpecCheck, SpecBarrier, AdviceBind, AdviceRead, AdviceWrite, Stmt, Commit, of_mem, all_hold}
 use Rattle.pdl_semantics.specs.Sequential.{Run, run_after, run_all}
 use Rattle.pdl_semantics.specs.Stages.{is_write_reserve}
-use Rattle.pdl_theory_derived.specs.Alone.{is_among, is_oldest, drop_var, but_last}
+use Rattle.pdl_theory_derived.specs.Alone.{is_among, drop_var}
 use Rattle.pdl_theory_derived.proofs.Writes.{and_left, and_right, of_mem_append}
 use Rattle.pdl_theory_facts.specs.Scans.{Phase, after_write, after_reserve, after_release, next_phase, may_write, phase_ok, phases_ok, write_reserves}
+use Rattle.pdl_theory_facts.proofs.Apart.{oldest_length}
 use Rattle.pdl_theory_turns.proofs.Surroundings.{taken_none}
 
 -- how many writes of the memory there were
@@ -30,19 +30,11 @@ one_more m ws c b e =
 abbrev pub left : Phase → ℕ
 left ph = length ph.unwritten
 
--- the oldest of some that wait is one of them
-but_last_length : (a : ℕ) (xs : List ℕ) → is_oldest a xs ≡ true → length (but_last xs) + 1 ≡ length xs
-but_last_length a [] h = absurd (false≢true h)
-but_last_length a (x ∷ []) h = refl
-but_last_length a (x ∷ y ∷ ys) h =
-    let rest : length (but_last (y ∷ ys)) + 1 ≡ length (y ∷ ys) = but_last_length a (y ∷ ys) (and_right (not (x == a)) _ h) in
-    omega (arith, rest)
-
 -- a write takes one of those that wait
 write_step : (m a k k' : ℕ) (ph : Phase) (b : Bool)
     → (not b || may_write ph a) ≡ true → k' ≡ k + (if b then 1 else 0)
     → k' + left (if b then after_write ph a else ph) ≤ (k + left ph) + 0
-write_step m a k k' ph true h e = let one = but_last_length a ph.unwritten h in omega (arith, e, one)
+write_step m a k k' ph true h e = let one = oldest_length a ph.unwritten h in omega (arith, e, one)
 write_step m a k k' ph false h e = omega arith
 
 -- a reservation brings one

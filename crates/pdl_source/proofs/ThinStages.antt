@@ -10,6 +10,7 @@ use Rattle.pdl_rules.specs.Limits.{is_separator}
 use Rattle.pdl_rules.specs.Speculation.{is_update}
 use Rattle.pdl_rules.specs.Stages.{stage_after, branches_of, same_branch, are_outer, stage_from, stage_in, stage_of, first_stage, stages_that, is_elsewhere, next_on}
 use Rattle.pdl_source.proofs.ThinPlaces.{thin_branches, thin_place, thin, thin_both, places_thin, Stays, stays_at, count_thin, on_path_thin}
+use Rattle.pdl_source_paths.proofs.EarlyReads.{drop_past}
 
 -- a separator stays one
 pub separators_stay : Stays is_separator
@@ -147,15 +148,11 @@ next_thin path begun (x ∷ xs) =
     at false false i s none later =
         ap (λ (b : Bool). if b then go (on_path path (thin_place x)) (thin xs) else next_on path begun (thin xs)) s ∙ later begun
 
-front_off : (xs : List Place) (x : Place) (ys : List Place) → drop (suc (length xs)) (xs ++ x ∷ ys) ≡ ys
-front_off [] x ys = refl
-front_off (z ∷ zs) x ys = front_off zs x ys
-
 -- the places after one that stays
 pub later_thin : (p : Pipe) (before : List Place) (x : Place) (later : List Place)
     → places p ≡ before ++ x ∷ later → is_update x ≡ false → places_after (without_update p) (thin before) ≡ thin (places_after p before)
 later_thin p before x later e i =
     let whole = places_thin p ∙ ap thin e ∙ thin_both before (x ∷ later)
     ∙ ap (λ u. thin before ++ (if u then thin later else thin_place x ∷ thin later)) i in
-    ap (drop (suc (length (thin before)))) whole ∙ front_off (thin before) (thin_place x) (thin later)
-    ∙ sym (ap thin (ap (drop (suc (length before))) e ∙ front_off before x later))
+    ap (drop (suc (length (thin before)))) whole ∙ drop_past (thin before) (thin_place x) (thin later)
+    ∙ sym (ap thin (ap (drop (suc (length before))) e ∙ drop_past before x later))

@@ -153,9 +153,10 @@ next_up c b (x ∷ xs) = at (is_separator x) (on_path c x) (λ n. next_up c n xs
         more (inr l) = inr (omega arith)
     at false o go = go b
 
-drop_at : (xs : List Place) (x : Place) (ys : List Place) → drop (suc (length xs)) (xs ++ x ∷ ys) ≡ ys
-drop_at [] x ys = refl
-drop_at (z ∷ xs) x ys = drop_at xs x ys
+-- what comes after an element of a list
+pub drop_past : (xs : List Place) (x : Place) (ys : List Place) → drop (suc (length xs)) (xs ++ x ∷ ys) ≡ ys
+drop_past [] x ys = refl
+drop_past (z ∷ xs) x ys = drop_past xs x ys
 
 module _ (p : Pipe) (rules : KeepsRules p) where
   -- with none after it, a site stands in the last stage
@@ -268,7 +269,7 @@ module _ (p : Pipe) (rules : KeepsRules p) where
       on = sym (h.alike env) ∙ tk
 
       after_is : places_after p t.front ≡ h.fine.later
-      after_is = ap (drop (suc (length t.front))) h.fine.whole ∙ drop_at t.front (place_of t) h.fine.later
+      after_is = ap (drop (suc (length t.front))) h.fine.whole ∙ drop_past t.front (place_of t) h.fine.later
 
       not_last : (t.walk.stage == stage_after (places p)) ≡ false
       not_last =

@@ -59,14 +59,6 @@ no_fork_whole sp c when otherwise e =
     let g = eqb-true (separators otherwise) 0 (not-false _ rest.0) in
     eq-eqb (separators when + separators otherwise) 0 (omega arith)
 
--- and one that begins some is a fork
-whole_no_fork : (sp : Span) (c : Expr) (when otherwise : Stmts) → is_whole when otherwise ≡ false → is_fork (If sp c when otherwise) ≡ true
-whole_no_fork sp c when otherwise e = at (is_fork (If sp c when otherwise)) refl
-  where
-    at : (b : Bool) → is_fork (If sp c when otherwise) ≡ b → b ≡ true
-    at true f = refl
-    at false f = absurd (false≢true (sym e ∙ no_fork_whole sp c when otherwise f))
-
 other_false : (a b : Bool) → (a && b) ≡ false → a ≡ true → b ≡ false
 other_false true b e f = e
 other_false false b e f = absurd (false≢true f)

@@ -1,6 +1,7 @@
 -- The `if` of each fork: where it stands, and under which guards.
 use Rattle.std.proofs.Common.{◌≡◌, refl, sym, ap, ap₂, ◌∙◌, ℕ, suc, ◌+◌, ◌≤◌, ◌<◌, ◌⊎◌, inl, inr, Bool, true, false, ◌&&◌, ◌||◌, not, List, [], ◌∷◌, ◌++◌, length, Option, Some, None, unwrap_or, arith, if◌then◌else◌, ◌==◌, slice_index}
 use Rattle.std.proofs.lemmas.Bool.{and_parts, and_from, cases_lt}
+use Rattle.std.proofs.lemmas.Option.{none-some}
 use Rattle.pdl_semantics.specs.Tree.{Span, Expr, Separator, If, Stmts, Nil, Cons, Mem, Pipe}
 use Rattle.pdl_semantics.specs.Flat
 use Rattle.pdl_semantics.specs.Flat.{all_hold, takes_branch}
@@ -61,9 +62,6 @@ fork_var Flat.Ends = None
 fork_var (Flat.Goes to) = None
 fork_var (Flat.Forks x a b) = Some x
 
-none_one : (x : ℕ) → None ≡ Some x → ⊥
-none_one x e = cc
-
 -- the guard of a branch is taken on each path that goes by the branch
 shown_side : (p : Flat.Pipe) (gs : List Flat.Guard) (d : List Flat.Branch) (k x a b : ℕ) (first : Bool) → Forked p d k x a b → Shown p gs d
     → Shown p (gs ++ record { var = x; first = first } ∷ []) (side k first ∷ d)
@@ -91,7 +89,7 @@ mutual
       → k + size (shape ms ss w) ≤ length p.stages → fork_var exit ≡ None → Shown p gs d → (s x : ℕ) → k ≤ s → s < k + size (shape ms ss w)
       → fork_var (stage_at p s).next ≡ Some x → Some_site (ForkSite p s x) (sites ms front w gs bs ss)
   fork_sites p ms d exit k merges front w gs bs Nil e i h g l z q s x low high f =
-      none_one x (sym z ∙ ap (λ (y : Flat.Stage). fork_var y.next) (sym g) ∙ ap (λ n. fork_var (stage_at p n).next) (let y : k ≡ s = omega arith in y) ∙ f)
+      none-some x (sym z ∙ ap (λ (y : Flat.Stage). fork_var y.next) (sym g) ∙ ap (λ n. fork_var (stage_at p n).next) (let y : k ≡ s = omega arith in y) ∙ f)
   fork_sites p ms d exit k merges front w gs bs (Cons (Separator sp) ss) e i h g l z q s x low high f =
       inr
       (at (cases_lt k s)
@@ -104,7 +102,7 @@ mutual
       at (inl m) more = more (omega arith)
       at (inr m) more =
           absurd
-          (none_one x (ap (λ (y : Flat.Stage). fork_var y.next) (sym g.0) ∙ ap (λ n. fork_var (stage_at p n).next) (let y : k ≡ s = omega arith in y) ∙ f))
+          (none-some x (ap (λ (y : Flat.Stage). fork_var y.next) (sym g.0) ∙ ap (λ n. fork_var (stage_at p n).next) (let y : k ≡ s = omega arith in y) ∙ f))
   fork_sites p ms d exit k merges front w gs bs (Cons (If sp c when otherwise) (Cons (Separator sq) ss)) e i h g l z q s x low high f =
       at (is_whole when otherwise) refl parts.0 g l high
       (λ fork late sides inside m n. fork_side p ms (side k true ∷ d)
@@ -173,7 +171,7 @@ mutual
               (more (suc k) None (let none = none_of_whole when otherwise whole in let y = begun in omega arith) g.1 (omega arith) (omega arith) (omega arith))
           turn (inr m) =
               absurd
-              (none_one x (ap (λ (y : Flat.Stage). fork_var y.next) (sym g.0) ∙ ap (λ n. fork_var (stage_at p n).next) (let y : k ≡ s = omega arith in y) ∙ f))
+              (none-some x (ap (λ (y : Flat.Stage). fork_var y.next) (sym g.0) ∙ ap (λ n. fork_var (stage_at p n).next) (let y : k ≡ s = omega arith in y) ∙ f))
       at false some fits g l high one two more =
           turn (cases_lt k s) (cases_lt (k + long (side_shape ms when (with_guard c w))) s)
           (cases_lt s (merge_at k (long (side_shape ms when (with_guard c w))) (long (side_shape ms otherwise (at_otherwise ms c when w)))))

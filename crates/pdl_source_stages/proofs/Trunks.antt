@@ -1,6 +1,7 @@
 -- What stands in the trunk: the stages of reserves, releases and verifies; and a branch's statements under the guards of the branches around it.
 use Rattle.std.proofs.Common.{◌≡◌, refl, sym, ap, ◌∙◌, subst, ℕ, zero, suc, ◌+◌, ◌≤◌, ◌<◌, ◌⊎◌, inl, inr, Bool, true, false, not, List, [], ◌∷◌, ◌++◌, length, Option, Some, None, unwrap_or, arith, if◌then◌else◌, ◌==◌, nat_lt, slice_index, slice_index_or, ltb-true, ltb-false}
 use Rattle.std.proofs.lemmas.Bool.{false≢true, and_parts, and_from, cases_lt}
+use Rattle.std.proofs.lemmas.Option.{none-some}
 use Rattle.pdl_kit.specs.declared.rule.Rule.TheVariants.{F1}
 use Rattle.pdl_semantics.specs.Tree.{Mem, Pipe}
 use Rattle.pdl_semantics.specs.Flat
@@ -28,12 +29,9 @@ use Rattle.pdl_word.proofs.Each.{each_weaker}
 
 -- THE FIRST STATEMENT OF A KIND
 
-no_stage : (s : ℕ) → None ≡ Some s → ⊥
-no_stage s e = cc
-
 first_good : (Good : ℕ → Type 0) (test : Flat.Op → Bool) (ys : List Flat.Stmt) (s : ℕ)
     → Each (λ y. test y.op ≡ true → Good y.stage) ys → first_stage test ys ≡ Some s → Good s
-first_good Good test [] s h e = absurd (no_stage s e)
+first_good Good test [] s h e = absurd (none-some s e)
 first_good Good test (y ∷ ys) s h e = at (test y.op) refl e (first_good Good test ys s h.1)
   where
     at : (b : Bool) → test y.op ≡ b → (if b then Some y.stage else first_stage test ys) ≡ Some s → (first_stage test ys ≡ Some s → Good s) → Good s

@@ -1,8 +1,8 @@
 -- Lists of nets that are made one by one, from the first on or from the last down.
-use Rattle.std.proofs.Common.{◌≡◌, ℕ, zero, suc, ◌+◌, ◌-◌, ◌<◌, ◌≤◌, List, [], ◌∷◌, ◌++◌, length, refl, ap, ◌∙◌, sym, subst, arith, add-one, ⊎_elim, length-append}
+use Rattle.std.proofs.Common.{◌≡◌, ℕ, zero, suc, ◌+◌, ◌-◌, ◌<◌, ◌≤◌, List, length, refl, ap, ◌∙◌, sym, subst, arith, add-one, ⊎_elim}
 use Rattle.std.specs.Prelude.{slice_set}
 use Rattle.std.proofs.lemmas.Bool.{cases_lt}
-use Rattle.std.proofs.lemmas.List.{get_or_push, get_or_append_left, get_or-set_same, get_or-set_other, length-set}
+use Rattle.std.proofs.lemmas.List.{get_or-set_same, get_or-set_other, length-set}
 use Rattle.pdl_net.specs.declared.Net.{Net}
 use Rattle.pdl_net.specs.declared.Net.TheVariants.{Input}
 use Rattle.pdl_net.specs.Circuit.{Circuit}
@@ -20,36 +20,6 @@ bits_kept a b nets n h e = record {
   count = h.count;
   each = λ k l. width_kept a b (net_at nets k) 1 e (h.each k l);
 }
-
--- a list with one net more
-mean_none : (c : Circuit) (f : ℕ → Signal) → MeanFrom c [] 0 0 f
-mean_none c f = record {
-  count = refl;
-  there = λ k lo hi. absurd (omega arith);
-  same = λ k lo hi. absurd (omega arith);
-}
-
-mean_push : (a b : Circuit) (nets : List Net) (x : Net) (n : ℕ) (f : ℕ → Signal) → MeanFrom a nets 0 n f → Extends a b
-    → Means b x (f n) → MeanFrom b (nets ++ x ∷ []) 0 (n + 1) f
-mean_push a b nets x n f h e m =
-    let here : net_at (nets ++ x ∷ []) n ≡ x = get_or_push nets x (Input 0) n h.count in
-    let before : (k : ℕ) → k < n → net_at (nets ++ x ∷ []) k ≡ net_at nets k =
-    λ k l. get_or_append_left nets (x ∷ []) (Input 0) k (omega (arith, h.count, l)) in
-    let There : Net → Type 0 = λ y. IsThere b y in
-    record {
-      count = length-append nets (x ∷ []) ∙ omega (arith, h.count);
-      there = λ k lo hi. ⊎_elim
-          (λ (l : k < n). subst There (sym (before k l)) (e.there (net_at nets k) (h.there k lo l)))
-          (λ (g : n ≤ k). let i : n ≡ k = omega arith in
-          let P : ℕ → Type 0 = λ j. IsThere b (net_at (nets ++ x ∷ []) j) in
-          subst P i (subst There (sym here) m.there))
-          (cases_lt k n);
-      same = λ k lo hi. ⊎_elim
-          (λ (l : k < n). ap (signal b) (before k l) ∙ e.kept (net_at nets k) (h.there k lo l) ∙ h.same k lo l)
-          (λ (g : n ≤ k). let i : n ≡ k = omega arith in
-          let P : ℕ → Type 0 = λ j. signal_at b (nets ++ x ∷ []) j ≡ f j in subst P i (ap (signal b) here ∙ m.same))
-          (cases_lt k n);
-    }
 
 -- a list with one net more before those that were set
 mean_set : (a b : Circuit) (nets : List Net) (x : Net) (k n : ℕ) (f : ℕ → Signal) → MeanFrom a nets (k + 1) n f

@@ -16,7 +16,7 @@ use Rattle.pdl_syntax_grammar.specs.Reading.{parse}
 use Rattle.pdl_syntax_grammar.specs.Text.{IsText, Begins, line_of, IsOutOfPlace, Tree, Misplaced, Gives, IsRefused}
 use Rattle.pdl_syntax_grammar.specs.Automaton.{run, whole}
 use Rattle.pdl_syntax_grammar.proofs.ReaderLaws.{is_text, stopped, same_pipe}
-use Rattle.pdl_syntax_grammar.proofs.ReaderLimits.{IsOut, out, spelt, unmarked, text_found, text_refused, front_within}
+use Rattle.pdl_syntax_grammar.proofs.ReaderLimits.{IsOut, out, spelt, text_found, text_refused, front_within}
 use Rattle.pdl_word.proofs.Lists.{longer, same_after}
 
 -- ---- no more tokens than bytes
@@ -77,10 +77,6 @@ pub stopped_at : (bytes : List ℕ) (left : Row) (line : ℕ)
     → run (marked_row at_start (tokens bytes)) whole ≡ Some left → line ≡ line_of left (last_line bytes)
     → IsOutOfPlace bytes line
 stopped_at bytes left line e place = place_of bytes left line (out (tokens bytes) left (stopped (marked_row at_start (tokens bytes)) left e)) place
-
--- the tokens of a pipe's text are seen as they are
-as_they_are : (bytes : List ℕ) (p : Pipe) → IsText bytes p → marked_row at_start (tokens bytes) ≡ tokens bytes
-as_they_are bytes p h = unmarked at_start (tokens bytes) refl h.within
 
 -- ---- one tree, one place
 

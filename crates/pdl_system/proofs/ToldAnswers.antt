@@ -22,8 +22,3 @@ untold (a ∷ rs) = (untold_one a.name a.bytes, untold rs)
     untold_one : (name : List ℕ) (bytes : Option (List ℕ)) → IsTold None name bytes
     untold_one name None = tt
     untold_one name (Some bytes) = tt
-
--- the answers since are what is held
-pub told_since : (holds : Option Held) (old new : List Answer) → AreTold holds (old ++ new) → AreTold holds new
-told_since holds [] new all = all
-told_since holds (a ∷ rs) new all = told_since holds rs new all.1

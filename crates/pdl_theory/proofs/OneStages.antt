@@ -1,6 +1,6 @@
 -- In a pipe of one stage each cycle is a whole thread of the sequential run, and prints its lines.
 use Rattle.std.proofs.Common.{◌≡◌, refl, sym, ap, ap₂, ◌∙◌, subst, ℕ, suc, ◌+◌, ◌≤◌, ◌<◌, inl, Bool, true, false, ◌&&◌, ◌||◌, not, List, [], ◌∷◌, ◌++◌, length, Option, Some, None, ◌==◌, nat_lt, slice_index_or, cond, arith, append-nil, ltb-true}
-use Rattle.std.proofs.lemmas.Bool.{eqb-false}
+use Rattle.std.proofs.lemmas.Bool.{eqb-false, false≢true}
 use Rattle.pdl_semantics.specs.Flat.{Arrays, Pipe, Op, DelayedRead, SpecCall, Verify, Call, Stmt, Mem, Commit, list_all, of_mem, arrays_of, all_hold}
 use Rattle.pdl_semantics.specs.Stages.{list_any, onpath, in_stage, stage_at, goes_to, onward, stages_on, verify_stage}
 use Rattle.pdl_semantics.specs.Sequential.{thread, threads, threads_from, writes_from, after_turns}
@@ -55,17 +55,14 @@ unfailed o (x ∷ xs) w h = unfailed o xs (step o x w) (λ path. later path (all
     at true k = Guesses.unfailed o (record x { guards = [] } ∷ []) w (ap (λ b. b && true) (and_left (not (is_check x.op)) _ k))
     at false k = refl
 
-clash : false ≡ true → ⊥
-clash e = cc
-
 -- in stages before the verifies' nothing is guessed, and without a guess nothing is verified
 one_certain : (v : Option ℕ) (s : ℕ) (k : Making) (op : Op)
     → stands_before v s ≡ false → is_guessed k ≡ false → making_ok v k s (answered_op op) ≡ true
     → (not (is_check op) ≡ true) × (is_guessed (next_making k (answered_op op)) ≡ false)
 one_certain v s k (Call args) b g h = (refl, refl)
-one_certain v s k (SpecCall args) b g h = absurd (clash (sym b ∙ and_right (is_unmade k) _ h))
-one_certain v s k (Verify true args) b g h = absurd (clash (sym g ∙ and_left (is_guessed k) _ h))
-one_certain v s k (Verify false args) b g h = absurd (clash (sym g ∙ and_left (is_guessed k) _ h))
+one_certain v s k (SpecCall args) b g h = absurd (false≢true (sym b ∙ and_right (is_unmade k) _ h))
+one_certain v s k (Verify true args) b g h = absurd (false≢true (sym g ∙ and_left (is_guessed k) _ h))
+one_certain v s k (Verify false args) b g h = absurd (false≢true (sym g ∙ and_left (is_guessed k) _ h))
 one_certain v s k _ b g h = (refl, g)
 
 unverified : (v : Option ℕ) (path : List ℕ) (xs : List Stmt) (k : Making)
@@ -96,7 +93,7 @@ none_before (Some n) f s = at (nat_lt s n) refl
 
 -- a request is made by a delayed read alone
 asks_same : (o : Around) (op : Op) (w : Work) → not (is_fetch op) ≡ true → (work_after o op w).asks ≡ w.asks
-asks_same o (DelayedRead x m a) w h = absurd (clash h)
+asks_same o (DelayedRead x m a) w h = absurd (false≢true h)
 asks_same o (Verify last args) w h = at (same_args (said o last args w.env) w.guess)
   where
     at : (b : Bool) → (cond b w (record w { child = Some (said o last args w.env); guess = said o last args w.env; fails = true })).asks ≡ w.asks

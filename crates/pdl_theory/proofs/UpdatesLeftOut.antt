@@ -11,6 +11,7 @@ use Rattle.pdl_theory_derived.specs.Alone.{before, answered_op}
 use Rattle.pdl_theory_facts.specs.Scans.{none_of, all_at, free_of, is_dead, keeps_guards, is_fixed, binds_var, Scan, scan_after, no_guards, Phase, phase_ok, next_phase, phases_ok, phase_all}
 use Rattle.pdl_theory_facts.specs.GuessScans.{Making, Unmade, Guessed, Made, next_making, making_all, making_ok, makings_ok, guess_stage, check_apart, checks_apart, once, is_sure, all_sure}
 use Rattle.pdl_theory_facts.specs.Facts.{asks_for, mentions_var, silent_on, unseen_op, is_unseen, fetches_no, none_like, alone_op, fetch_apart, binds_guard, defined_by, late_for, looked_all}
+use Rattle.pdl_theory_simulation.proofs.FlowScans.{is_update_looked}
 
 -- PARTS OF THE STATEMENTS
 
@@ -23,17 +24,13 @@ swapped part true false x y xs ys f l h = h
 swapped part false true x y xs ys f l h = f ∙ ap (λ zs. y ∷ zs) h ∙ sym l
 swapped part false false x y xs ys f l h = f ∙ h
 
-answered_update : (op : Op) → is_update (answered_op op) ≡ is_update op
-answered_update (DelayedRead x m a) = refl
-answered_update _ = refl
-
 -- those of the stages before s
 pub before_left : (s : ℕ) (xs : List Stmt) → before s (without_updates xs) ≡ without_updates (before s xs)
 before_left s [] = refl
 before_left s (x ∷ xs) =
     let y : Stmt = record x { op = answered_op x.op } in
     swapped (before s) (is_update x.op) (nat_lt x.stage s) x y (without_updates xs) (before s xs) refl
-    (ap (λ u. if u then without_updates (before s xs) else y ∷ without_updates (before s xs)) (answered_update x.op))
+    (ap (λ u. if u then without_updates (before s xs) else y ∷ without_updates (before s xs)) (is_update_looked x.op))
     (before_left s xs)
 
 -- those of a stage
@@ -61,7 +58,7 @@ looked_left [] = refl
 looked_left (x ∷ xs) =
     let y : Stmt = record x { op = answered_op x.op } in
     swapped looked_all (is_update x.op) true x y (without_updates xs) (looked_all xs) refl
-    (ap (λ u. if u then without_updates (looked_all xs) else y ∷ without_updates (looked_all xs)) (answered_update x.op))
+    (ap (λ u. if u then without_updates (looked_all xs) else y ∷ without_updates (looked_all xs)) (is_update_looked x.op))
     (looked_left xs)
 
 -- WHAT IS ASKED OF EACH STATEMENT

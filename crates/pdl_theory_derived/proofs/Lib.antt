@@ -7,3 +7,4 @@ pub mod Deeds
 pub mod Slots
 pub mod Lists
 pub mod SameRows
+pub use Rattle.pdl_semantics.proofs.Facts

@@ -3,6 +3,7 @@ use Rattle.std.proofs.Common.{◌≡◌, ◌≢◌, refl, sym, ap, ◌∙◌, �
 use Rattle.std.proofs.lemmas.Bool.{eqb-true, eqb-false, ne_eqb}
 use Rattle.pdl_semantics.specs.Flat.{Arrays, Array, with_value, Commit, of_mem, after_commits, with_word}
 use Rattle.pdl_semantics.specs.Promises.{wrote, row}
+pub use Rattle.pdl_semantics.proofs.Facts.{of_mem_append}
 
 row_same : (arrays : Arrays) (m a v : ℕ) → row (with_word arrays m a v) m ≡ with_value (row arrays m) a v
 row_same arrays m a v = ap (λ c. cond c (with_value (arrays m) a v) (arrays m)) (eq-eqb m m refl)
@@ -28,15 +29,6 @@ row_committed m (c ∷ cs) arrays = row_committed m cs (with_word arrays c.mem c
 pub wrote_append : (xs ys : List Commit) (words : Array) → wrote words (xs ++ ys) ≡ wrote (wrote words xs) ys
 wrote_append [] ys words = refl
 wrote_append (x ∷ xs) ys words = wrote_append xs ys (with_value words x.address x.value)
-
-cons_append : (b : Bool) (x : Commit) (us vs ws : List Commit) → us ≡ vs ++ ws → cond b (x ∷ us) us ≡ cond b (x ∷ vs) vs ++ ws
-cons_append true x us vs ws e = ap (λ l. x ∷ l) e
-cons_append false x us vs ws e = e
-
--- the writes to m in two lists are those of the one and then those of the other
-pub of_mem_append : (m : ℕ) (xs ys : List Commit) → of_mem m (xs ++ ys) ≡ of_mem m xs ++ of_mem m ys
-of_mem_append m [] ys = refl
-of_mem_append m (x ∷ xs) ys = cons_append (x.mem == m) x _ _ _ (of_mem_append m xs ys)
 
 -- where two things hold, the first holds
 pub and_left : (b c : Bool) → (b && c) ≡ true → b ≡ true

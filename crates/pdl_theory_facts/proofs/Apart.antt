@@ -1,6 +1,6 @@
 -- The locations of a phase without a value are others than those with one and than those that are released.
 use Rattle.std.proofs.Common.{◌≡◌, refl, sym, ap, ◌∙◌, ℕ, suc, ◌+◌, length, arith, Bool, true, false, ◌&&◌, ◌||◌, not, List, [], ◌∷◌, ◌==◌, cond, if◌then◌else◌}
-use Rattle.std.proofs.lemmas.Bool.{eqb-true}
+use Rattle.std.proofs.lemmas.Bool.{eqb-true, not-true}
 use Rattle.pdl_theory_derived.specs.Alone.{is_among, is_oldest, drop_var, but_last}
 use Rattle.pdl_theory_derived.proofs.Writes.{and_left, and_right}
 use Rattle.pdl_theory_facts.specs.Scans.{Phase, Fresh, after_write, after_reserve, after_release, may_write, is_new, next_phase, phase_ok, phases_ok, phase_all, no_guards, write_reserves}
@@ -15,10 +15,6 @@ Apart ph = (x : ℕ) → is_among x ph.unwritten ≡ true → (is_among x ph.ful
 pub apart_fresh : Apart Fresh
 apart_fresh x h = absurd (cc h)
 
-no_not : (b : Bool) → not b ≡ true → b ≡ false
-no_not true h = absurd (cc h)
-no_not false h = refl
-
 -- after a reservation
 pub apart_reserve : (ph : Phase) (a : ℕ) → is_new ph a ≡ true → Apart ph → Apart (after_reserve ph a)
 apart_reserve ph a h f x k = at (a == x) refl k
@@ -26,7 +22,7 @@ apart_reserve ph a h f x k = at (a == x) refl k
     new : (is_among a ph.full ≡ false) × (is_among a ph.gone ≡ false)
     new =
         let r = and_right (not (is_among a ph.unwritten)) _ h in
-        (no_not _ (and_left (not (is_among a ph.full)) _ r), no_not _ (and_right (not (is_among a ph.full)) _ r))
+        (not-true _ (and_left (not (is_among a ph.full)) _ r), not-true _ (and_right (not (is_among a ph.full)) _ r))
 
     at : (b : Bool) → (a == x) ≡ b → (b || is_among x ph.unwritten) ≡ true → (is_among x ph.full ≡ false) × (is_among x ph.gone ≡ false)
     at true e g = (ap (λ y. is_among y ph.full) (sym (eqb-true a x e)) ∙ new.0, ap (λ y. is_among y ph.gone) (sym (eqb-true a x e)) ∙ new.1)

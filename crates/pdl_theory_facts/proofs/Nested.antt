@@ -5,6 +5,7 @@ use Rattle.pdl_theory_derived.specs.semantics.Flat.{Pipe, Branch}
 use Rattle.pdl_theory_derived.specs.semantics.Stages.{list_any, stage_at, is_inside, sides_of}
 use Rattle.pdl_theory_facts.specs.Graphs.{Home, Within, Trunk, next_of, goes_by, Way, Branches}
 use Rattle.pdl_theory_facts.specs.Facts.{comes_by, visits_stage}
+use Rattle.pdl_theory_derived.proofs.Facts.{sides_append}
 use Rattle.pdl_theory_derived.proofs.Writes.{and_right}
 
 abbrev head_of : Branch → List Branch → Branch
@@ -166,13 +167,6 @@ sides_outside f (b ∷ bs) h = at (b.fork == f) h (sides_outside f bs)
 -- a branch of another fork says nothing of this one
 pub sides_other : (f : ℕ) (x : Branch) (c : List Branch) → (x.fork ≡ f → ⊥) → sides_of f (x ∷ c) ≡ sides_of f c
 sides_other f x c n = ap (λ t. (if t then x.first ∷ [] else []) ++ sides_of f c) (ne_eqb x.fork f n)
-
--- of two lists of branches those of a fork are those of the one and then those of the other
-pub sides_append : (f : ℕ) (xs ys : List Branch) → sides_of f (xs ++ ys) ≡ sides_of f xs ++ sides_of f ys
-sides_append f [] ys = refl
-sides_append f (x ∷ xs) ys =
-    ap (λ l. (if x.fork == f then x.first ∷ [] else []) ++ l) (sides_append f xs ys)
-    ∙ sym (append_assoc (if x.fork == f then x.first ∷ [] else []) (sides_of f xs) (sides_of f ys))
 
 module _ (p : Pipe) (below : (x : Branch) (c : List Branch) (s : ℕ) → Within p (x ∷ c) s → Home p c x.fork × (x.fork < s)) where
   -- no stage is inside its own fork

@@ -1,6 +1,6 @@
 -- A pipe that passes the tests of the whole language has the facts that the theorems take.
 use Rattle.std.proofs.Common.{◌≡◌, refl, sym, ap, ap₂, ◌∙◌, subst, ℕ, zero, suc, ◌-◌, ◌≤◌, ◌<◌, ◌⊎◌, inl, inr, Bool, true, false, ◌&&◌, ◌||◌, not, List, [], ◌∷◌, ◌++◌, length, Option, Some, None, nat_lt, nat_le, ◌==◌, cond, if◌then◌else◌, arith, slice_index, replicate, ltb-true, ltb-false, leb-true, lt-ltb, le_refl, eq-eqb}
-use Rattle.std.proofs.lemmas.Bool.{eqb-true, ne_eqb, not-true}
+use Rattle.std.proofs.lemmas.Bool.{eqb-true, ne_eqb, not-true, false≢true}
 use Rattle.pdl_semantics.specs.Flat.{list_all, Op, DelayedRead, Stmt, Guard, Next, Ends, Goes, Forks, Branch, Stage, Pipe, start_env}
 use Rattle.pdl_semantics.specs.Stages.{onpath, in_stage, stage_at, last_stage, list_any, is_inside, is_reserve, mem_at, goes_to, commit_stage, reserve_stage, fork_guards}
 use Rattle.pdl_semantics.specs.Sound.{all_below, stages_from, is_fetch}
@@ -19,7 +19,7 @@ use Rattle.pdl_theory_derived.proofs.Writes.{and_left, and_right}
 use Rattle.pdl_theory_facts.proofs.Texts.{below_at, past_end, where_true, no_reserve}
 use Rattle.pdl_theory_facts.proofs.Passes.{known, reserves, pathwise_paths, parts_paths, reserve_past, commit_past}
 use Rattle.pdl_theory_progress.proofs.Rates.{picks, among, among_append, fork_among}
-use Rattle.pdl_theory_progress.proofs.TestedPaths.{clash, or_more, all_picks, Agree, path_agree, between_none, AllTrue, parts, agree_picks, hangs_none, before_among, all_same}
+use Rattle.pdl_theory_progress.proofs.TestedPaths.{or_more, all_picks, Agree, path_agree, between_none, AllTrue, parts, agree_picks, hangs_none, before_among, all_same}
 use Rattle.pdl_word.proofs.Bools.{by_bool, by_or}
 
 -- some number below n passes
@@ -125,7 +125,7 @@ module _ (p : Pipe) (h : passes_tests p ≡ true) where
           (and_left (all_outer (λ c. all_below (λ r. not (is_home p c r) || not (nat_lt s r && nat_lt r (next_of p s env))) (length p.stages))
           (stage_at p s).branches) _ (after_inside s env low)) in
           let z = below_at (λ r. not (is_home p c r) || not (nat_lt s r && nat_lt r (next_of p s env))) (length p.stages) r all_c (omega arith) in
-          clash (sym (ap₂ (λ a b. not a || not (b && nat_lt r (next_of p s env))) (is_home_of p c r t) (lt-ltb _ _ i) ∙ ap not k) ∙ z)
+          false≢true (sym (ap₂ (λ a b. not a || not (b && nat_lt r (next_of p s env))) (is_home_of p c r t) (lt-ltb _ _ i) ∙ ap not k) ∙ z)
 
   after_jump : (s : ℕ) (env : List ℕ) → s < length p.stages
       → ((not (next_of p s env == length p.stages) || (is_trunk p s && (suc s == length p.stages)))
@@ -341,7 +341,7 @@ module _ (p : Pipe) (h : passes_tests p ≡ true) where
       at (Goes to) e k = absurd (never (subst (λ o. no_side c.fork o ≡ true) (there (Goes to) e) (subst (λ n. side_passes p c.fork n ≡ true) e k)))
         where
           never : not (c.fork == c.fork) ≡ true → ⊥
-          never l = clash (sym (ap not (eq-eqb c.fork c.fork refl)) ∙ l)
+          never l = false≢true (sym (ap not (eq-eqb c.fork c.fork refl)) ∙ l)
       at (Forks x a b) e k =
           ap (λ n. on_side n c.first env) e ∙ pick (slice_index env x == 1) refl (there (Forks x a b) e) (subst (λ n. side_passes p c.fork n ≡ true) e k)
         where
@@ -419,7 +419,7 @@ module _ (p : Pipe) (h : passes_tests p ≡ true) where
   of_fork : (v f b : ℕ) → v < length p.stages → Trunk p v → is_inside p f b ≡ true → (if merges_by p f (Some v) then nat_lt b v else nat_le v f) ≡ true
   of_fork v f b u t i =
       by_bool (nat_lt b (length p.stages)) _ (λ low. at (stage_at p b).branches i (whole_at v b u t (ltb-true _ _ low)))
-      (λ high. absurd (clash (ap (λ l. list_any (λ (x : Branch). x.fork == f) l) (sym (trunk_past b (ltb-false _ _ high))) ∙ i)))
+      (λ high. absurd (false≢true (ap (λ l. list_any (λ (x : Branch). x.fork == f) l) (sym (trunk_past b (ltb-false _ _ high))) ∙ i)))
     where
       at : (l : List Branch)
           → list_any (λ x. x.fork == f) l ≡ true → branch_whole p v b l ≡ true

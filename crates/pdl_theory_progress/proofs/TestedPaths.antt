@@ -1,6 +1,6 @@
 -- Paths by the values of their guards: each agrees with one that a test goes through.
 use Rattle.std.proofs.Common.{◌≡◌, refl, sym, ap, ap₂, ◌∙◌, subst, ℕ, ◌≤◌, ◌<◌, Bool, true, false, ◌&&◌, ◌||◌, not, List, [], ◌∷◌, length, nat_lt, nat_le, ◌==◌, cond, if◌then◌else◌, arith, slice_index, slice_set, ltb-true, ltb-false, leb-false, eq-eqb}
-use Rattle.std.proofs.lemmas.Bool.{eqb-true, not-true}
+use Rattle.std.proofs.lemmas.Bool.{eqb-true, not-true, false≢true}
 use Rattle.pdl_semantics.specs.Flat.{list_all, Stmt, Guard, takes_branch, all_hold}
 use Rattle.pdl_semantics.specs.Stages.{onpath}
 use Rattle.pdl_theory_derived.specs.Alone.{before, answered_op}
@@ -11,10 +11,6 @@ use Rattle.pdl_theory_facts.specs.SoundChecks.{unfetched_guards, none_hangs, all
 use Rattle.pdl_theory_derived.proofs.Writes.{and_left, and_right}
 use Rattle.pdl_theory_progress.proofs.Rates.{picks, among, among_append, picked}
 use Rattle.pdl_word.proofs.Bools.{by_bool, by_or}
-
--- false isn't true
-pub clash : false ≡ true → ⊥
-clash k = cc
 
 -- one of two things holds where the second does
 pub or_more : (b : Bool) {c : Bool} → c ≡ true → (b || c) ≡ true
@@ -123,7 +119,7 @@ taken_fewer ys (g ∷ gs) env h = at (none_of (is_fetch_of g.var) ys) (taken_few
 
 -- guards don't hold together where those among them that no delayed read decides don't
 pub not_taken : (ys : List Stmt) (gs : List Guard) (env : List ℕ) → all_hold (unfetched_guards ys gs) env ≡ false → all_hold gs env ≡ false
-not_taken ys gs env h = by_bool (all_hold gs env) (all_hold gs env ≡ false) (λ e. absurd (clash (sym h ∙ taken_fewer ys gs env e))) (λ e. e)
+not_taken ys gs env h = by_bool (all_hold gs env) (all_hold gs env ≡ false) (λ e. absurd (false≢true (sym h ∙ taken_fewer ys gs env e))) (λ e. e)
 
 fewer_among : (g : ℕ) (ys : List Stmt) (gs : List Guard) → among g (vars_of (unfetched_guards ys gs)) ≡ true → among g (vars_of gs) ≡ true
 fewer_among g ys [] h = h

@@ -1,6 +1,6 @@
 -- A cycle keeps the live threads on their turns, in the whole language, and what is committed in step with the sequential run.
 use Rattle.std.proofs.Common.{◌≡◌, ◌≢◌, refl, sym, ap, ap₂, ◌∙◌, subst, ℕ, ◌≤◌, ◌<◌, ◌⊎◌, inl, inr, Bool, true, false, ◌&&◌, ◌||◌, not, List, [], ◌∷◌, ◌++◌, length, Option, Some, None, ◌==◌, nat_lt, cond, arith, append_assoc, is_none, is_some}
-use Rattle.std.proofs.lemmas.Bool.{eqb-true, eqb-false}
+use Rattle.std.proofs.lemmas.Bool.{eqb-true, eqb-false, false≢true}
 use Rattle.std.proofs.Common.{ltb-false, lt-ltb, le_of_eq, le_refl, le_of_lt, lt_of_lt_of_le}
 use Rattle.pdl_semantics.specs.Flat.{Arrays, Pipe, of_mem, list_all, start_env}
 use Rattle.pdl_semantics.specs.Stages.{stage_at, mem_at, goes_to, commit_stage, reserve_stage}
@@ -25,9 +25,6 @@ use Rattle.pdl_theory_turns.proofs.ThreadOrder.{Under, AllUnder, Stepped, all_lo
 use Rattle.pdl_theory_derived.proofs.DelayedReads.{apart_still, AllAsks, all_more, all_both, all_still, Out, new_out, all_out, or_ask, find_append, found, held_port, answers_caught}
 use Rattle.pdl_theory_refinement.proofs.Unsure.{Unsure, unsure_older, unsure_before}
 use Rattle.pdl_theory_refinement.proofs.Spots.{Spot, seat, now_spot, now_seat, Sure, Waits, Here, Standing, Behind, plain_clean, surrounds, words_right, whole_now}
-
-clash : false ≡ true → ⊥
-clash k = cc
 
 -- no read is awaited where the test finds none
 pub none_left : (rs : List Awaited) → is_empty rs ≡ true → rs ≡ []
@@ -490,4 +487,4 @@ module _ (p : Pipe) (acc : Course p) (image : Arrays) (st : State) (bits : List 
         behind_next p acc older v v' d (λ m. []) asks (λ m. None) world args ahead ahead' sp.stage sp.stage
         (act p st bits older (seat p world args sp)) b h.under refl refl (inl (low_here, e, refl))
         (λ m. record { front = []; rest = marks p world args sp.stage m; whole = refl; commits = refl; raised = raised_refl (marks p world args sp.stage m) })
-        (λ m k. refl) (λ m k. absurd (clash k))
+        (λ m k. refl) (λ m k. absurd (false≢true k))

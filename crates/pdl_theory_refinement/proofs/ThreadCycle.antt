@@ -3,6 +3,7 @@ use Rattle.std.proofs.Common.{◌≡◌, ◌≢◌, refl, sym, ap, ap₂, ◌∙
 use Rattle.std.proofs.lemmas.Bool.Decides.{leb_tells}
 use Rattle.std.proofs.Math.Bool.{or-false}
 use Rattle.std.proofs.Common.{ltb-true, lt-ltb, le_refl, le_of_lt, lt_of_le_of_lt}
+use Rattle.std.proofs.lemmas.Bool.{false≢true}
 use Rattle.pdl_semantics.specs.Flat.{Arrays, Pipe, of_mem, list_all}
 use Rattle.pdl_semantics.specs.Stages.{stage_at, goes_to, commit_stage}
 use Rattle.pdl_semantics.specs.Machine.{Ask, same_args}
@@ -25,9 +26,6 @@ use Rattle.pdl_theory_refinement.proofs.Spots.{Spot, seat, seats, shown, is_nil,
 use Rattle.pdl_theory_refinement.proofs.StrayCommits.{StraysAfter, strays_cycle}
 use Rattle.pdl_theory_refinement.proofs.Cycles.{past_last, NowAsks, moved_spot, start_spot, under_start, asks_moved, asks_stays, born_standing, born_seat, shown_one, exit_last, moved_thread, rows_next, none_past, low_here, head_stands, work_same, commits_quiet, calm_here, head_moves, behind_moved, behind_stands}
 use Rattle.pdl_word.proofs.Bools.{by_bool}
-
-clash : false ≡ true → ⊥
-clash k = cc
 
 -- a right guess is one
 some_right : (c : Option (List ℕ)) (next : List ℕ) → right_guess c next ≡ true → (x : List ℕ) × (c ≡ Some x)
@@ -311,7 +309,7 @@ module _ (p : Pipe) (acc : Course p) (image : Arrays) (st : State) (bits : List 
         (acts p st bits (act p st bits older (seat p (with_hint arrays sp.hint) args sp) ∷ older) strays) =
         stray_rest p acc (st.hints 0) st bits (with_hint arrays sp.hint) args older sp.stage sp.stage
         (act p st bits older (seat p (with_hint arrays sp.hint) args sp)) strays _ refl h.linked l
-        (le_refl sp.stage) refl (λ k. absurd (clash (sym stays ∙ k))) in
+        (le_refl sp.stage) refl (λ k. absurd (false≢true (sym stays ∙ k))) in
         let quiet : (m : ℕ) → of_mem m (commits_of (acts p st bits (act p st bits older (seat p (with_hint arrays sp.hint) args sp) ∷ older) strays)) ≡ [] =
         λ m. ap (of_mem m) after.commits in
         let low : sp.stage < length p.stages =

@@ -1,6 +1,7 @@
 -- Threads behind one whose guess may still change.
 use Rattle.std.proofs.Common.{◌≡◌, refl, sym, ap, ap₂, ◌∙◌, subst, ℕ, suc, ◌≤◌, ◌<◌, inl, inr, Bool, true, false, ◌&&◌, ◌||◌, not, List, [], ◌∷◌, ◌++◌, length, Some, is_none, nat_le, nat_lt, cond, arith, le_refl, le_of_lt, ltb-true, ltb-false}
 use Rattle.std.proofs.lemmas.Bool.Decides.{leb_tells}
+use Rattle.std.proofs.Math.Bool.{and-false}
 use Rattle.pdl_semantics.specs.Flat.{Pipe, list_all}
 use Rattle.pdl_semantics.specs.Stages.{verify_stage}
 use Rattle.pdl_semantics.specs.Moves.{is_empty}
@@ -16,10 +17,6 @@ abbrev pub Unsure : Pipe → ℕ → List ℕ → Type 0
 Unsure p v [] = ⊥
 Unsure p v (b ∷ bs) = (verify_stage p.stmts ≡ Some v) × (b ≤ v)
 
-and_false : (b : Bool) → (b && false) ≡ false
-and_false true = refl
-and_false false = refl
-
 -- where nobody is behind, a squash changes nothing
 pub same_none : (b : Bool) (l : List Thread) → l ≡ [] → cond b [] l ≡ []
 same_none true l h = refl
@@ -34,7 +31,7 @@ held_back p st bits older (t ∷ ts) h =
     let stays : a.moves
     ≡ false = ap (λ b. b && a.work.ready && have_room p (befores older) a.work && is_empty a.now.awaits && can_enter p older (exit_of p a)) h in
     let rest = held_back p st bits (act p st bits older t ∷ older) ts
-    (ap (λ b. not (a.moves && a.work.fails) && b) h ∙ and_false (not (a.moves && a.work.fails))) in
+    (ap (λ b. not (a.moves && a.work.fails) && b) h ∙ and-false (not (a.moves && a.work.fails))) in
     (ap₂ (λ b l. cond b (a.work.commits ++ l) l) stays rest.0, ap₂ (λ b c. (b && is_none (exit_of p a)) || c) stays rest.1)
 
 module _ (p : Pipe) (acc : Course p) where

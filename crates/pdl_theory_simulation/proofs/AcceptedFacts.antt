@@ -1,6 +1,6 @@
 -- The facts that the simulation takes follow stages_from those of an accepted pipe.
 use Rattle.std.proofs.Common.{◌≡◌, refl, sym, ap, ap₂, ◌∙◌, subst, ℕ, suc, ◌≤◌, ◌<◌, ◌⊎◌, inl, inr, Bool, true, false, ◌&&◌, ◌||◌, not, List, [], ◌∷◌, ◌++◌, length, Some, None, ◌==◌, nat_lt, nat_le, cond, arith, ltb-true, ltb-false, leb-true, leb-false, le_refl, eq-eqb}
-use Rattle.std.proofs.lemmas.Bool.{eqb-true, eqb-false, ne_eqb}
+use Rattle.std.proofs.lemmas.Bool.{eqb-true, eqb-false, ne_eqb, false≢true}
 use Rattle.pdl_semantics.specs.Flat.{list_all, Pipe, Branch, Op, DelayedRead, Stmt, all_hold}
 use Rattle.pdl_semantics.specs.Stages.{onpath, in_stage, stage_at, goes_to, is_inside, commit_stage, verify_stage, is_check, is_verify}
 use Rattle.pdl_semantics.specs.Sound.{stages_before, stages_from, is_fetch, is_call, is_delayed_read, is_spec_call}
@@ -26,9 +26,6 @@ use Rattle.pdl_word.proofs.Lists.{tail_same}
 all_of : (test : Stmt → Bool) (xs : List Stmt) → list_all test xs ≡ true → AllOf (λ z. test z ≡ true) xs
 all_of test [] h = tt
 all_of test (x ∷ xs) h = (and_left (test x) _ h, all_of test xs (and_right (test x) _ h))
-
-clash : false ≡ true → ⊥
-clash k = cc
 
 cons_head : {x y : Stmt} {xs ys : List Stmt} → x ∷ xs ≡ y ∷ ys → x.stage ≡ y.stage
 cons_head {x} {y} {xs} {ys} e = ap first e
@@ -126,7 +123,7 @@ apart_stages path s q (x ∷ xs) low h = at (all_hold x.guards path) refl h (apa
         → (before q (onpath path xs) ≡ before (suc s) (onpath path xs) → AllOf (λ z. all_hold z.guards path ≡ true → (z.stage ≤ s) ⊎ (q ≤ z.stage)) xs)
         → (all_hold x.guards path ≡ true → (x.stage ≤ s) ⊎ (q ≤ x.stage)) × AllOf (λ z. all_hold z.guards path ≡ true → (z.stage ≤ s) ⊎ (q ≤ z.stage)) xs
     at true t k go = let r = here (nat_lt x.stage q) refl (nat_lt x.stage (suc s)) refl k in ((λ u. r.0), go r.1)
-    at false t k go = ((λ u. absurd (clash (sym t ∙ u))), go k)
+    at false t k go = ((λ u. absurd (false≢true (sym t ∙ u))), go k)
 
 -- GUARDS
 
@@ -140,11 +137,11 @@ late_each z (y ∷ ys) h = (
   where
     fetch_late : (f : Bool) → (not f || nat_lt y.stage z.stage) ≡ true → f ≡ true → y.stage < z.stage
     fetch_late true k e = ltb-true _ _ k
-    fetch_late false k e = absurd (clash e)
+    fetch_late false k e = absurd (false≢true e)
 
     one : (b : Bool) → (not b || defined_by y.stage y.op z.stage) ≡ true → b ≡ true → DefinedBy y.stage y.op z.stage
     one true k e = (leb-true _ _ (and_left (nat_le y.stage z.stage) _ k), fetch_late (is_fetch y.op) (and_right (nat_le y.stage z.stage) _ k))
-    one false k e = absurd (clash e)
+    one false k e = absurd (false≢true e)
 
 -- a definition that stands in no later stage, and if it is a delayed read not in this one
 fork_each : (x s : ℕ) (xs : List Stmt)
@@ -155,7 +152,7 @@ fork_each x s (y ∷ ys) h k = at (nat_le (suc s) y.stage) refl (y.stage == s) r
   where
     fetch_of : (op : Op) → is_fetch op ≡ true → binds_var x op ≡ true → is_fetch_of x op ≡ true
     fetch_of (DelayedRead z m a) e b = b
-    fetch_of _ e b = absurd (clash e)
+    fetch_of _ e b = absurd (false≢true e)
 
     at : (b : Bool) → nat_le (suc s) y.stage ≡ b → (c : Bool) → (y.stage == s) ≡ c
         → none_of (binds_var x) (cond b (y ∷ stages_from (suc s) ys) (stages_from (suc s) ys)) ≡ true
@@ -164,9 +161,9 @@ fork_each x s (y ∷ ys) h k = at (nat_le (suc s) y.stage) refl (y.stage == s) r
         → AllOf (λ y. binds_var x y.op ≡ true → DefinedBy y.stage y.op s) ys)
         → (binds_var x y.op ≡ true → DefinedBy y.stage y.op s) × AllOf (λ y. binds_var x y.op ≡ true → DefinedBy y.stage y.op s) ys
     at true d true e i j go = absurd (let u : suc s ≤ y.stage = leb-true _ _ d in let v = eqb-true _ _ e in omega arith)
-    at true d false e i j go = ((λ b. absurd (clash (sym (ap not b) ∙ and_left (not (binds_var x y.op)) _ i))), go (and_right (not (binds_var x y.op)) _ i) j)
+    at true d false e i j go = ((λ b. absurd (false≢true (sym (ap not b) ∙ and_left (not (binds_var x y.op)) _ i))), go (and_right (not (binds_var x y.op)) _ i) j)
     at false d true e i j go = (
-      (λ b. (let v = eqb-true _ _ e in omega arith, λ f. absurd (clash (sym (ap not (fetch_of y.op f b)) ∙ and_left (not (is_fetch_of x y.op)) _ j)))),
+      (λ b. (let v = eqb-true _ _ e in omega arith, λ f. absurd (false≢true (sym (ap not (fetch_of y.op f b)) ∙ and_left (not (is_fetch_of x y.op)) _ j)))),
       go i (and_right (not (is_fetch_of x y.op)) _ j),
     )
     at false d false e i j go = (
@@ -209,7 +206,7 @@ calls_looked b (x ∷ xs) =
 
 from_mem : (m : ℕ) (op : Op) → is_delayed_read m op ≡ true → (R : Type 0) → ((x n a : ℕ) → op ≡ DelayedRead x n a → n ≡ m → R) → R
 from_mem m (DelayedRead x n a) h R go = go x n a refl (eqb-true n m h)
-from_mem m _ h R go = absurd (clash h)
+from_mem m _ h R go = absurd (false≢true h)
 
 like_none : (x m : ℕ) (ys : List Stmt) → none_like x m ys ≡ true → none_of (is_delayed_read m) ys ≡ true
 like_none x m [] h = refl
@@ -218,7 +215,7 @@ like_none x m (y ∷ ys) h =
     (like_none x m ys (and_right (Rattle.pdl_theory_facts.specs.Facts.fetches_no x m y.op) _ h))
   where
     one : (op : Op) → Rattle.pdl_theory_facts.specs.Facts.fetches_no x m op ≡ true → not (is_delayed_read m op) ≡ true
-    one (DelayedRead z n a) k = ap not (ne_eqb n m (λ e. clash (sym (ap not (eq-eqb m n (sym e))) ∙ and_right (not (x == z)) _ k)))
+    one (DelayedRead z n a) k = ap not (ne_eqb n m (λ e. false≢true (sym (ap not (eq-eqb m n (sym e))) ∙ and_right (not (x == z)) _ k)))
     one _ k = refl
 
 -- at most one read of a memory, where they stand in one stage and differ there
@@ -236,7 +233,7 @@ one_there m s (x ∷ xs) h k = at (is_delayed_read m x.op) refl (one_there m s x
         by : (b : Bool) → is_delayed_read m y.op ≡ b → (c : Bool) → (y.stage == s) ≡ c
             → none_of (is_delayed_read m) (cond c (y ∷ in_stage s ys) (in_stage s ys)) ≡ true
             → (none_of (is_delayed_read m) (in_stage s ys) ≡ true → none_of (is_delayed_read m) ys ≡ true) → none_of (is_delayed_read m) (y ∷ ys) ≡ true
-        by true d true e u go = absurd (clash (sym (ap not d) ∙ and_left (not (is_delayed_read m y.op)) _ u))
+        by true d true e u go = absurd (false≢true (sym (ap not d) ∙ and_left (not (is_delayed_read m y.op)) _ u))
         by true d false e u go = absurd (eqb-false _ _ e (i.0 d))
         by false d true e u go = ap₂ (λ a b. not a && b) d (go (and_right (not (is_delayed_read m y.op)) _ u))
         by false d false e u go = ap₂ (λ a b. not a && b) d (go u)
@@ -347,7 +344,7 @@ module _ (p : Pipe) (acc : Sound p) where
   late_on : (path : List ℕ)
       → AllOf (λ z. all_hold z.guards path ≡ true → AllOf (λ y. binds_guard y.op z.guards ≡ true → DefinedBy y.stage y.op z.stage) p.stmts) p.stmts
   late_on path =
-      all_map (λ z h t. by_or (is_dead z.guards) _ _ h (λ d. absurd (clash (sym (dead_none z.guards path d) ∙ t))) (λ k. late_each z p.stmts k)) p.stmts
+      all_map (λ z h t. by_or (is_dead z.guards) _ _ h (λ d. absurd (false≢true (sym (dead_none z.guards path d) ∙ t))) (λ k. late_each z p.stmts k)) p.stmts
       (all_of (λ z. is_dead z.guards || late_for z p.stmts) p.stmts acc.guards_late)
 
   -- DELAYED READS

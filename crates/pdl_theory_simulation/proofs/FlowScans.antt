@@ -1,6 +1,6 @@
 -- What the scans of locks and calls tell the simulation.
 use Rattle.std.proofs.Common.{◌≡◌, refl, ap, ap₂, ◌∙◌, ℕ, ◌&&◌, ◌||◌, not, List, [], ◌∷◌, Option, true, false, sym, ◌⊎◌, inl, inr, Bool, Some, ◌==◌, cond, subst, None, nat_lt, ◌<◌, arith, ltb-true}
-use Rattle.std.proofs.lemmas.Bool.{eqb-true}
+use Rattle.std.proofs.lemmas.Bool.{eqb-true, false≢true}
 use Rattle.pdl_semantics.specs.Flat.{Op, Write, ReserveWrite, Release, SpecCall, Verify, Call, Stmt, DelayedRead}
 use Rattle.pdl_semantics.specs.Stages.{in_stage, is_check, is_verify}
 use Rattle.pdl_theory_derived.specs.Alone.{answered_op}
@@ -52,15 +52,12 @@ calls_of v k (x ∷ xs) h =
 
 -- A GUESS AND ITS CHECKS
 
-clash : false ≡ true → ⊥
-clash i = cc
-
 -- after a guess or a call no path makes a guess
 still : (v : Option ℕ) (s : ℕ) (k : Making) (op : Op)
     → is_unmade k ≡ false → making_ok v k s (answered_op op) ≡ true
     → (is_unmade (next_making k (answered_op op)) ≡ false) × (is_spec_call op ≡ false)
 still v s k (Call args) u i = (refl, refl)
-still v s k (SpecCall args) u i = absurd (clash (sym u ∙ and_left _ _ i))
+still v s k (SpecCall args) u i = absurd (false≢true (sym u ∙ and_left _ _ i))
 still v s k (Verify true args) u i = (refl, refl)
 still v s k (Verify false args) u i = (refl, refl)
 still v s k _ u i = (u, refl)
@@ -84,7 +81,7 @@ same_stage g s (SpecCall args) h = absurd (cc h)
 same_stage g s _ h = refl
 
 no_check : (s r : ℕ) (op : Op) → check_apart (Some s) r (answered_op op) ≡ true → (r == s) ≡ true → is_check op ≡ false
-no_check s r (Verify last args) h e = absurd (clash (sym (ap not e) ∙ h))
+no_check s r (Verify last args) h e = absurd (false≢true (sym (ap not e) ∙ h))
 no_check s r _ h e = refl
 
 unchecked : (v : Option ℕ) (s : ℕ) (k : Making) (xs : List Stmt)
@@ -167,7 +164,8 @@ apart_of v s k g (x ∷ xs) h c =
 
 -- UPDATES
 
-is_update_looked : (op : Op) → is_update (answered_op op) ≡ is_update op
+-- an operation whose answer has come is an update just where it was
+pub is_update_looked : (op : Op) → is_update (answered_op op) ≡ is_update op
 is_update_looked (DelayedRead x m a) = refl
 is_update_looked _ = refl
 
@@ -181,12 +179,12 @@ once_looked been (x ∷ xs) =
 update_low : (v : Option ℕ) (k : Making) (s : ℕ) (op : Op)
     → stands_before v s ≡ false → making_ok v k s (answered_op op) ≡ true → not (is_update op) ≡ true
 update_low v k s (Verify true args) e h = refl
-update_low v k s (Verify false args) e h = absurd (clash (sym e ∙ and_right (is_guessed k) _ h))
+update_low v k s (Verify false args) e h = absurd (false≢true (sym e ∙ and_right (is_guessed k) _ h))
 update_low v k s _ e h = refl
 
 verify_there : (v : Option ℕ) (k : Making) (s : ℕ) (op : Op)
     → stands_at v s ≡ false → making_ok v k s (answered_op op) ≡ true → not (is_verify op) ≡ true
-verify_there v k s (Verify true args) e h = absurd (clash (sym e ∙ and_right (is_guessed k) _ h))
+verify_there v k s (Verify true args) e h = absurd (false≢true (sym e ∙ and_right (is_guessed k) _ h))
 verify_there v k s (Verify false args) e h = refl
 verify_there v k s _ e h = refl
 
@@ -209,7 +207,7 @@ pub update_or_verify : (v : Option ℕ) (s : ℕ) (k : Making) (xs : List Stmt) 
 update_or_verify v s k xs h = at (stands_at v s) refl
   where
     not_before : (w : Option ℕ) → stands_at w s ≡ true → stands_before w s ≡ false
-    not_before None e = absurd (clash e)
+    not_before None e = absurd (false≢true e)
     not_before (Some q) e = by (nat_lt s q) refl
       where
         by : (b : Bool) → nat_lt s q ≡ b → nat_lt s q ≡ false

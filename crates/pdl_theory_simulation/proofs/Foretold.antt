@@ -1,6 +1,6 @@
 -- What the threads of the derived machine are given to say is what those of a run of the stated machine say, and so whole runs of both are the same.
 use Rattle.std.proofs.Common.{◌≡◌, refl, sym, ap, ap₂, ◌∙◌, subst, ℕ, suc, ◌<◌, Bool, true, false, ◌&&◌, ◌||◌, not, List, [], ◌∷◌, ◌++◌, Option, Some, None, ◌==◌, cond, arith, length, append-nil}
-use Rattle.std.proofs.lemmas.Bool.{eqb-true}
+use Rattle.std.proofs.lemmas.Bool.{eqb-true, and_right}
 use Rattle.pdl_semantics.specs.Flat.{Arrays, Pipe, Op, Stmt}
 use Rattle.pdl_semantics.specs.Stages.{onpath, in_stage, stage_at, goes_to}
 use Rattle.pdl_semantics.specs.Machine.{State, with_answers}
@@ -71,14 +71,6 @@ picked true i true g tail rest h = refl
 picked true true false g tail rest h = h
 picked true false false g tail rest h = h
 picked false i c g tail rest h = h
-
-none_so : (a b : Bool) → b ≡ false → (a && b) ≡ false
-none_so true b e = e
-none_so false b e = refl
-
-is_not : (b : Bool) → not b ≡ true → b ≡ false
-is_not true e = absurd (cc e)
-is_not false e = refl
 
 is_so : (b : Bool) → not b ≡ false → b ≡ true
 is_so true e = refl
@@ -212,7 +204,7 @@ module _ (p : Pipe) (flows : Flows p) where
           at true i h =
               ap₂ (λ b c. ((x.live.number == y.live.number) && b) || c)
               (ap (λ (z : Pair). (did p d bits z.older z.live).moves) (o.0 (eqb-true _ _ i)) ∙ e) h
-              ∙ ap (λ b. b || false) (none_so (x.live.number == y.live.number) false refl)
+              ∙ ap (λ b. b || false) (and_right (x.live.number == y.live.number) false refl)
           at false i h = ap₂ (λ b c. (b && (did p d bits x.older x.live).moves) || c) i h
 
       -- one that stands, or says nothing as it moves, will say later what it was given
@@ -228,7 +220,7 @@ module _ (p : Pipe) (flows : Flows p) where
         where
           at : (b : Bool) → (did p d bits y.older y.live).moves ≡ b → (b && has_any test (here y)) ≡ false
               → (moves_in y.live.number (Moves.all_acts p st bits) && has_any test (stated_here y.live)) ≡ false
-          at true i n = none_so (moves_in y.live.number (Moves.all_acts p st bits)) _ (ap (has_any test) (here_is y k) ∙ n)
+          at true i n = and_right (moves_in y.live.number (Moves.all_acts p st bits)) _ (ap (has_any test) (here_is y k) ∙ n)
           at false i n =
               ap (λ b. b && has_any test (stated_here y.live))
               (ap (moves_in y.live.number) (acts_are p flows st d bits ls sim told) ∙ stands_among y (sorted ls) o i)
@@ -244,7 +236,7 @@ module _ (p : Pipe) (flows : Flows p) where
           → (q : ℕ) → goes_to (stage_at p y.live.thread.stage).next (work_of_live p d bits y.older y.live).env ≡ Some q
           → Says test word p (Cycle.cycle p st bits) schedule (moved_one q (advised p st bits y.live) (work_of_live p d bits y.older y.live))
       says_moved test word schedule y k o h q i j =
-          later test word schedule y k o h (first _ _ both) (none_so (did p d bits y.older y.live).moves (has_any test (here y)) (second _ _ both))
+          later test word schedule y k o h (first _ _ both) (and_right (did p d bits y.older y.live).moves (has_any test (here y)) (second _ _ both))
         where
           first : (a b : Bool) → (a || b) ≡ false → a ≡ false
           first true b e = absurd (cc e)

@@ -1,6 +1,6 @@
 -- Of threads in two stages: the fork lists, who is older, and what the later stages tell.
 use Rattle.std.proofs.Common.{◌≡◌, refl, sym, ap, ap₂, ◌∙◌, subst, ℕ, suc, ◌≤◌, ◌<◌, ◌⊎◌, inl, inr, Bool, true, false, ◌&&◌, ◌||◌, not, List, [], ◌∷◌, ◌++◌, length, Option, Some, None, ◌==◌, nat_lt, nat_le, if◌then◌else◌, arith, append-nil, append_assoc, leb-true, leb-false, le_refl, eq-eqb}
-use Rattle.std.proofs.lemmas.Bool.{eqb-true, eqb-false, ne_eqb, le-ltb}
+use Rattle.std.proofs.lemmas.Bool.{eqb-true, eqb-false, ne_eqb, le-ltb, or_right}
 use Rattle.pdl_semantics.specs.Flat.{Pipe, Branch, list_all}
 use Rattle.pdl_semantics.specs.Stages.{list_any, in_stage, stage_at, verify_stage, reserve_stage, is_inside, sides_of}
 use Rattle.pdl_semantics.specs.Locks.{Nothing}
@@ -55,10 +55,6 @@ any_not test (x ∷ xs) = at (test x) (any_not test xs)
     at : (b : Bool) → list_any test xs ≡ not (list_all (λ x. not (test x)) xs) → (b || list_any test xs) ≡ not (not b && list_all (λ x. not (test x)) xs)
     at true h = refl
     at false h = h
-
-or_more : (b c : Bool) → c ≡ true → (b || c) ≡ true
-or_more true c e = refl
-or_more false c e = e
 
 -- FORK LISTS
 
@@ -561,7 +557,7 @@ module _ (p : Pipe) (flows : Flows p) (st : State) (d : Derived.State) (bits : L
       moves_among [] = tt
       moves_among (x ∷ xs) = (
         (λ e. ap₂ (λ b c. (b && c) || moves_in x.live.number (acts_of xs)) (eq-eqb x.live.number x.live.number refl) e),
-        pair_map (λ y f. λ e. or_more ((x.live.number == y.live.number) && (did p d bits x.older x.live).moves) _ (f e)) xs (moves_among xs),
+        pair_map (λ y f. λ e. or_right ((x.live.number == y.live.number) && (did p d bits x.older x.live).moves) _ (f e)) xs (moves_among xs),
       )
 
       acts_from : (lo hi : ℕ) (xs : List Pair) → Rises lo hi (lives_of xs)
@@ -583,7 +579,7 @@ module _ (p : Pipe) (flows : Flows p) (st : State) (d : Derived.State) (bits : L
               (down (λ y. suc x.live.thread.stage ≤ y.live.thread.stage → A y) ((λ i. absurd (omega arith)), pair_map (λ y a. λ i. a) xs h))
 
           within : (test : Moves.Act → Bool) → list_any test (sacts p st bits (lives_of xs)) ≡ true → list_any test (Moves.all_acts p st bits) ≡ true
-          within test e = reach test (or_more (test _) _ e)
+          within test e = reach test (or_right (test _) _ e)
 
           -- where the threads in later stages move in both machines or in neither, they say what they were given
           foreseen : sacts p st bits (lives_of xs) ≡ acts_of xs → EachPair (λ y. MovesForeseen p flows st d bits arrays y.older y.live) xs

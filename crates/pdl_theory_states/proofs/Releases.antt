@@ -1,6 +1,7 @@
 -- Who has released a write of a memory: only threads past the stage of its releases, all threads of turns past it that write, and none after a wrong guess.
 use Rattle.std.proofs.Common.{◌≡◌, refl, sym, ap, ap₂, ◌∙◌, subst, ℕ, ◌<◌, Bool, true, false, ◌&&◌, ◌||◌, not, List, [], ◌∷◌, ◌++◌, Some, ◌==◌, nat_lt, cond, arith, ltb-true, ltb-false, lt-ltb}
 use Rattle.std.proofs.lemmas.Bool.{eqb-true, not-true, or_right}
+use Rattle.std.proofs.Math.Bool.{and-false}
 use Rattle.pdl_semantics.specs.Flat.{Pipe, Op, Bind, CombRead, DelayedRead, Write, ReserveRead, ReserveWrite, Block, Release, Call, SpecCall, Verify, SpecCheck, SpecBarrier, AdviceBind, AdviceRead, AdviceWrite, Stmt, Commit, all_hold, of_mem}
 use Rattle.pdl_semantics.specs.Stages.{list_any, onpath, is_release, commit_stage, verify_stage, is_write_reserve}
 use Rattle.pdl_semantics.specs.Machine.{State, HeldLocation}
@@ -67,11 +68,6 @@ pub never_done : (m : ℕ) (ph : Phase) (xs : List Stmt)
 never_done m ph [] r h = h
 never_done m ph (x ∷ xs) r h = never_done m (next_phase m ph x.op) xs (and_right (not (is_release m x.op)) _ r) (done_op m ph x.op (and_left _ _ r) h)
 
--- once used a lock is not fresh
-and_none : (b : Bool) → (b && false) ≡ false
-and_none true = refl
-and_none false = refl
-
 used_op : (m : ℕ) (ph : Phase) (op : Op) → is_fresh ph ≡ false → is_fresh (next_phase m ph op) ≡ false
 used_op m ph (ReserveWrite n a) h = at (n == m)
   where
@@ -81,12 +77,12 @@ used_op m ph (ReserveWrite n a) h = at (n == m)
 used_op m ph (Write n a e) h = at (n == m)
   where
     at : (b : Bool) → is_fresh (cond b (after_write ph a) ph) ≡ false
-    at true = and_none (is_nil (but_last ph.unwritten))
+    at true = and-false (is_nil (but_last ph.unwritten))
     at false = h
 used_op m ph (Release n a) h = at (n == m) (is_among a ph.full)
   where
     at : (b c : Bool) → is_fresh (cond b (cond c (record { unwritten = ph.unwritten; full = drop_var a ph.full; gone = a ∷ ph.gone }) ph) ph) ≡ false
-    at true true = ap (λ b. is_nil ph.unwritten && b) (and_none (is_nil (drop_var a ph.full))) ∙ and_none (is_nil ph.unwritten)
+    at true true = ap (λ b. is_nil ph.unwritten && b) (and-false (is_nil (drop_var a ph.full))) ∙ and-false (is_nil ph.unwritten)
     at true false = h
     at false c = h
 used_op m ph _ h = h

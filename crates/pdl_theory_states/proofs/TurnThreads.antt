@@ -1,6 +1,7 @@
 -- A thread of a turn in a stage: its way is the turn's path, its values and pending writes are the turn's, and its guess is wrong just where its successor isn't the next turn.
 use Rattle.std.proofs.Common.{◌≡◌, refl, sym, ap, ap₂, ◌∙◌, subst, ℕ, suc, ◌+◌, ◌-◌, ◌<◌, ◌≤◌, length, arith, nat_lt, is_none, append_assoc, length-append, ltb-true, ltb-false, lt-ltb, Bool, true, false, ◌&&◌, ◌||◌, not, List, [], ◌∷◌, ◌++◌, Option, Some, None, is_some, ◌==◌, cond, slice_index, eq-eqb}
 use Rattle.std.proofs.Math.Bool.{and-false}
+use Rattle.std.proofs.lemmas.List.{append_cancel_left}
 use Rattle.pdl_semantics.specs.Flat.{Pipe, Op, Bind, CombRead, DelayedRead, Write, ReserveRead, ReserveWrite, Block, Release, Call, SpecCall, Verify, SpecCheck, SpecBarrier, AdviceBind, AdviceRead, AdviceWrite, Stmt, value_of, all_hold, Commit, of_mem}
 use Rattle.pdl_semantics.specs.Stages.{list_any, onpath, in_stage, is_verify, verify_stage, reserve_stage, commit_stage}
 use Rattle.pdl_semantics.specs.Machine.{Pending, same_args}
@@ -23,7 +24,7 @@ use Rattle.pdl_theory_turns.proofs.SequentialThread.{Related, related_step}
 use Rattle.pdl_theory_turns.proofs.Paths.{Fixed, taken_stays, before_path}
 use Rattle.pdl_theory_turns.proofs.OwnEntries.{none_second}
 use Rattle.pdl_theory_turns.proofs.Looks.{before_looked, run_looked}
-use Rattle.pdl_theory_turns.proofs.UndoneWrites.{same_rest, writes_first, tied_at, early_written, late_empty}
+use Rattle.pdl_theory_turns.proofs.UndoneWrites.{writes_first, tied_at, early_written, late_empty}
 use Rattle.pdl_theory_derived.proofs.Lists.{own, pend}
 use Rattle.pdl_theory_turns.proofs.TurnFacts.{right_guess}
 use Rattle.pdl_theory_turns.proofs.Guesses.{Calls, same_args_refl}
@@ -400,7 +401,7 @@ module _ (p : Pipe) (sound : Sound p) (world : World) (args : List ℕ) where
           let unset : List ℕ = (phase_all m Fresh xs).unwritten in
           let all : of_mem m (thread q world.words args).writes ≡ told m t.fulls ++ more.0 = more.1 ∙ ap (λ l. l ++ more.0) ws in
           let rest : places more.0
-          ≡ rev (addresses_at (so_far q world args s).env unset) = same_rest (places (told m t.fulls)) (places more.0)
+          ≡ rev (addresses_at (so_far q world args s).env unset) = append_cancel_left (places (told m t.fulls)) (places more.0)
           (rev (addresses_at (so_far q world args s).env unset))
           (sym (places_append (told m t.fulls) more.0) ∙ ap places (sym all) ∙ sym (TurnPath.all_places q acc world args s m h)
           ∙ ap (λ l. places l ++ rev (addresses_at (so_far q world args s).env unset)) ws) in

@@ -1,5 +1,6 @@
 -- What the threads of one path make: the facts of their calls and guesses by stages.
 use Rattle.std.proofs.Common.{◌≡◌, refl, sym, ap, ◌∙◌, subst, ℕ, suc, ◌≤◌, ◌<◌, inl, true, false, List, length, Option, Some, None, nat_lt, ltb-true, ltb-false}
+use Rattle.std.proofs.lemmas.Bool.{false≢true}
 use Rattle.pdl_semantics.specs.Flat.{Pipe}
 use Rattle.pdl_semantics.specs.Stages.{is_check, onpath, in_stage, verify_stage}
 use Rattle.pdl_semantics.specs.Machine.{same_args}
@@ -30,9 +31,6 @@ not_some h = cc
 
 same_some : {x y : List ℕ} → Some x ≡ Some y → x ≡ y
 same_some h = cc
-
-clash : false ≡ true → ⊥
-clash h = cc
 
 module _ (p : Pipe) (acc : Pathwise p) (path : List ℕ) (world : World) (args : List ℕ) where
   -- the statements of a path before a stage make the next thread in order
@@ -120,7 +118,7 @@ module _ (p : Pipe) (acc : Pathwise p) (path : List ℕ) (world : World) (args :
       at : (o : Option ℕ) → verify_stage p.stmts ≡ o → (v : ℕ) × (verify_stage p.stmts ≡ Some v) × (s ≤ v)
       at None i =
           absurd
-          (clash
+          (false≢true
           (sym
           (no_guess Unmade (before s (onpath path p.stmts))
           (subst (λ o. makings_ok o Unmade (before s (onpath path p.stmts)) ≡ true) i (makings_before s)) refl)
@@ -168,7 +166,7 @@ module _ (p : Pipe) (acc : Pathwise p) (path : List ℕ) (world : World) (args :
       (λ k. k)
       (λ k.
       let ok = subst (λ j. makings_ok (verify_stage p.stmts) j (in_stage s (onpath path p.stmts)) ≡ true) k (makings_stage s) in
-      absurd (clash (sym (unfailed o (in_stage s (onpath path p.stmts))
+      absurd (false≢true (sym (unfailed o (in_stage s (onpath path p.stmts))
       (reset (so_far (along path p) world args s)) (unverified_made (verify_stage p.stmts) (in_stage s (onpath path p.stmts)) ok)) ∙ f)))
 
   -- a wrong guess is not verified yet
@@ -180,6 +178,6 @@ module _ (p : Pipe) (acc : Pathwise p) (path : List ℕ) (world : World) (args :
       (λ k. absurd (not_some (sym (unmade_child s k) ∙ e)))
       (λ k. k)
       (λ k. absurd
-      (clash
+      (false≢true
       (sym h ∙ ap (λ y. same_args y (thread (along path p) world.words args).next) (same_some (sym e ∙ made_child s k))
       ∙ same_args_refl (thread (along path p) world.words args).next)))

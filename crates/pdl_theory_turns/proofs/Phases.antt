@@ -1,7 +1,7 @@
 -- What a thread that runs alone holds and commits of one memory, beside the sequential run.
 use Rattle.std.proofs.Common.{if◌then◌else◌, ◌≡◌, refl, sym, ap, ap₂, ◌∙◌, ℕ, Bool, true, false, ◌&&◌, ◌||◌, not, List, [], ◌∷◌, ◌++◌, Some, None, ◌==◌, slice_index, slice_set, append-nil, append_assoc}
 use Rattle.std.proofs.lemmas.List.{get_or-set_other}
-use Rattle.std.proofs.lemmas.Bool.{eqb-true, eqb-false}
+use Rattle.std.proofs.lemmas.Bool.{eqb-true, eqb-false, not-true}
 use Rattle.pdl_semantics.specs.Flat.{Commit}
 use Rattle.pdl_theory_facts.specs.Scans.{Phase, after_write, after_reserve, after_release, may_write, is_over}
 use Rattle.pdl_theory_derived.specs.Alone.{is_nil, is_among, is_oldest, drop_var, but_last}
@@ -73,18 +73,13 @@ tied_moved m ph env es es' cs cs' ws ws' p q r t =
           ∙ t.calm h;
     }
 
--- what is not true is false
-pub not_false : (b : Bool) → not b ≡ true → b ≡ false
-not_false true h = absurd (cc h)
-not_false false h = refl
-
 -- a variable that no held location has may be set, and entries, commits and writes stay of their phase
 pub tied_set : (m : ℕ) (ph : Phase) (env : List ℕ) (es : List Entry) (cs ws : List Commit) (x v : ℕ)
     → not (is_among x ph.unwritten) ≡ true → Tied m ph env es cs ws → Tied m ph (slice_set env x v) es cs ws
 tied_set m ph env es cs ws x v h t =
     record {
       fulls = t.fulls;
-      entries = t.entries ∙ ap (λ l. waiting m l ++ known m t.fulls) (sym (opened_set env ph.unwritten x v (not_false _ h)));
+      entries = t.entries ∙ ap (λ l. waiting m l ++ known m t.fulls) (sym (opened_set env ph.unwritten x v (not-true _ h)));
       vars = t.vars;
       written = t.written;
       calm = t.calm;
@@ -126,7 +121,7 @@ tied_release m a ph env es cs ws h t = at (is_among a ph.full) refl
     behind : (without (waiting m os ++ known m t.fulls) m a ≡ waiting m os ++ without (known m t.fulls) m a)
         × (released_commits (waiting m os ++ known m t.fulls) m a ≡ released_commits (known m t.fulls) m a)
         × (has_entry (waiting m os ++ known m t.fulls) m a ≡ has_entry (known m t.fulls) m a)
-    behind = released_behind m a os (known m t.fulls) (ap (is_among a) (opened_vars env ph.unwritten) ∙ not_false _ h)
+    behind = released_behind m a os (known m t.fulls) (ap (is_among a) (opened_vars env ph.unwritten) ∙ not-true _ h)
 
     at : (b : Bool)
         → is_among a ph.full ≡ b

@@ -12,7 +12,7 @@ use Rattle.pdl_theory_facts.specs.Facts.{looked_all, at_once, is_fetch_of, comes
 use Rattle.pdl_theory_facts.specs.Graphs.{next_of, Within}
 use Rattle.pdl_theory_facts.proofs.Nested.{came_from, arrives, visits_same}
 use Rattle.std.proofs.lemmas.List.{get_or-set_other}
-use Rattle.std.proofs.lemmas.Bool.{eqb-false, ne_eqb, or_parts, not-true}
+use Rattle.std.proofs.lemmas.Bool.{eqb-false, ne_eqb, or_parts, not-true, false≢true}
 use Rattle.pdl_theory_derived.proofs.Writes.{and_left, and_right}
 use Rattle.pdl_theory_turns.proofs.Paths.{fixed_all, all_stays, taken_stays, before_path, stage_path}
 use Rattle.pdl_theory_turns.proofs.Surroundings.{AllIn, in_stage_all, Covers}
@@ -25,7 +25,7 @@ use Rattle.pdl_theory_turns.proofs.Looks.{before_looked, stage_looked, path_look
 use Rattle.pdl_theory_turns.proofs.StageFacts.{EachFetch, asks_each, not_fetched}
 use Rattle.pdl_theory_turns.proofs.Makes
 use Rattle.pdl_theory_turns.proofs.TurnPath
-use Rattle.pdl_theory_turns.proofs.StrayPaths.{clash, making_looked, ok_looked, opens_looked, barred_looked, sure_looked, fixed_looked, looked_append, looked_before, verify_looked, Barred, roam_all, steers_by, steers, side_same, Aside, AllAside, visits_answers, still_aside, aside_asks, none_stage_from, fetch_binds, before_none}
+use Rattle.pdl_theory_turns.proofs.StrayPaths.{making_looked, ok_looked, opens_looked, barred_looked, sure_looked, fixed_looked, looked_append, looked_before, verify_looked, Barred, roam_all, steers_by, steers, side_same, Aside, AllAside, visits_answers, still_aside, aside_asks, none_stage_from, fetch_binds, before_none}
 use Rattle.pdl_semantics.specs.Sound.{stages_from}
 
 -- ROAMING THREADS
@@ -251,7 +251,7 @@ module _ (p : Pipe) (acc : Sound p) where
             (onpath (work_of_stage p o t).env (in_stage t.stage p.stmts))))
             ≡ (has_made p t || is_some (work_of_stage p o t).child))
         by Unmade i = (
-          (λ h. absurd (clash (sym (had Unmade i) ∙ h))),
+          (λ h. absurd (false≢true (sym (had Unmade i) ∙ h))),
           ap (λ j. not (is_unmade (making_all j (onpath (work_of_stage p o t).env (in_stage t.stage p.stmts))))) i
               ∙ flip _ _
               (begins o (verify_stage p.stmts) Unmade (onpath (work_of_stage p o t).env (in_stage t.stage p.stmts))
@@ -306,7 +306,7 @@ module _ (p : Pipe) (acc : Sound p) where
         turned z (y ∷ ys) h = ((λ d x m a e. apart x (h.0 d x m a e)), turned z ys h.1)
           where
             apart : (x : ℕ) → not (x == z) ≡ true → (z == x) ≡ false
-            apart x k = ne_eqb z x (λ i. clash (sym (k' k) ∙ eq-eqb x z (sym i)))
+            apart x k = ne_eqb z x (λ i. false≢true (sym (k' k) ∙ eq-eqb x z (sym i)))
               where
                 k' : not (x == z) ≡ true → (x == z) ≡ false
                 k' j = at (x == z) j

@@ -1,6 +1,6 @@
 -- What a stage's deeds do to a thread's entries of one memory is what the derived work does at once.
 use Rattle.std.proofs.Common.{◌≡◌, ◌≤◌, refl, sym, ap, ap₂, ◌∙◌, subst, ℕ, suc, ◌+◌, Bool, true, false, ◌&&◌, ◌||◌, not, List, [], ◌∷◌, ◌++◌, Some, None, ◌==◌, cond, if◌then◌else◌, arith, eq-eqb, append-nil, append_assoc, length, length-append}
-use Rattle.std.proofs.lemmas.Bool.{eqb-true, eqb-false}
+use Rattle.std.proofs.lemmas.Bool.{eqb-true, eqb-false, not-true}
 use Rattle.std.proofs.lemmas.Bool.Decides.{eqb_tells}
 use Rattle.pdl_semantics.specs.Flat.{Commit, of_mem}
 use Rattle.pdl_semantics.specs.Machine.{Ask, Pending, Blocked, Reserved, Deeds}
@@ -16,7 +16,6 @@ use Rattle.pdl_theory_derived.proofs.Entries.{entries_of, entry, write_of, Open,
 use Rattle.pdl_theory_derived.proofs.Lists.{own, pend}
 use Rattle.pdl_theory_facts.specs.Scans.{Phase, after_write, after_reserve, after_release, may_write, is_new}
 use Rattle.pdl_theory_facts.proofs.Apart.{Apart, apart_reserve, apart_write, apart_release}
-use Rattle.pdl_theory_turns.proofs.Phases.{not_false}
 use Rattle.pdl_theory_turns.proofs.EntryCommits.{released}
 
 -- LISTS OF PENDING WRITES
@@ -389,7 +388,7 @@ step_reserve m n k a y ph es cs start rs ws rel true e h g =
     unused : is_used ph a ≡ false
     unused =
         let r = and_right (not (is_among a ph.unwritten)) _ h in
-        ap₂ (λ c d. c || d) (not_false _ (and_left (not (is_among a ph.full)) _ r)) (not_false _ (and_right (not (is_among a ph.full)) _ r))
+        ap₂ (λ c d. c || d) (not-true _ (and_left (not (is_among a ph.full)) _ r)) (not-true _ (and_right (not (is_among a ph.full)) _ r))
 
 -- a release that takes nothing of m out
 step_none : (m n k a : ℕ) (ph : Phase) (es : List Entry) (cs : List Commit) (new : List Pending)
@@ -427,7 +426,7 @@ step_release m n k a ph es cs new ws rs held i true e h g = at (is_among a ph.fu
     same = eqb-true k m e
 
     closed : is_among a (open_vars g.opens) ≡ false
-    closed = ap (is_among a) g.at_open ∙ not_false _ h
+    closed = ap (is_among a) g.at_open ∙ not-true _ h
 
     behind : (without (waiting m g.opens ++ known m g.fulls) m a ≡ waiting m g.opens ++ without (known m g.fulls) m a)
         × (released_commits (waiting m g.opens ++ known m g.fulls) m a ≡ released_commits (known m g.fulls) m a)

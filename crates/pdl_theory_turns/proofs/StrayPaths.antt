@@ -12,7 +12,7 @@ use Rattle.pdl_theory_facts.specs.Facts.{is_dead, looked_all, is_fetch_of, visit
 use Rattle.pdl_theory_facts.specs.Graphs.{on_side, Within}
 use Rattle.pdl_theory_facts.proofs.Nested.{visits_same}
 use Rattle.std.proofs.lemmas.List.{get_or-set_other}
-use Rattle.std.proofs.lemmas.Bool.{eqb-true, eqb-false}
+use Rattle.std.proofs.lemmas.Bool.{eqb-true, eqb-false, false≢true}
 use Rattle.pdl_theory_derived.proofs.Writes.{and_left, and_right}
 use Rattle.pdl_theory_derived.proofs.Stages.{step, was_ready}
 use Rattle.pdl_theory_turns.proofs.Surroundings.{AllIn, Covers, covers_op}
@@ -22,10 +22,6 @@ use Rattle.pdl_theory_derived.proofs.DelayedReads.{AllAsks}
 use Rattle.pdl_theory_turns.proofs.Looks.{look, looked_twice}
 use Rattle.pdl_theory_turns.proofs.StageFacts.{binds_looked}
 use Rattle.pdl_semantics.specs.Sound.{stages_from}
-
--- `false` is not `true`
-pub clash : false ≡ true → ⊥
-clash k = cc
 
 -- SCANS WHERE DELAYED READS ARE READS
 
@@ -138,7 +134,7 @@ roam_op v o c s (Release m a) w clear low sure cover ready =
         by true false h k = absurd (cc k)
 
     unheld : (b : Bool) → has_entry w.entries m a ≡ b → has_entry w.entries m a ≡ false
-    unheld true e = absurd (clash (sym unopened ∙ cover m a e))
+    unheld true e = absurd (false≢true (sym unopened ∙ cover m a e))
     unheld false e = e
 roam_op v o c s (Verify last args) w clear low sure cover ready = at (same_args (said o last args w.env) w.guess)
   where
@@ -147,7 +143,7 @@ roam_op v o c s (Verify last args) w clear low sure cover ready = at (same_args 
     at true = (refl, refl)
     at false = (refl, refl)
 roam_op v o c s SpecBarrier w (inl n) low sure cover ready = absurd (cc n)
-roam_op v o c s SpecBarrier w (inr clear) low sure cover ready = absurd (clash (sym clear ∙ and_right w.ready o.clear ready))
+roam_op v o c s SpecBarrier w (inr clear) low sure cover ready = absurd (false≢true (sym clear ∙ and_right w.ready o.clear ready))
 roam_op v o c s _ w clear low sure cover ready = (refl, refl)
 
 first_barred : (o : Around) (x : Stmt) (xs : List Stmt) → Barred o (x ∷ xs) → (not (is_barrier x.op) ≡ true) ⊎ (o.clear ≡ false)

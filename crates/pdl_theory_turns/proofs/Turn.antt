@@ -1,7 +1,7 @@
 -- The statements of one path: what their thread holds, commits and makes by each stage.
 use Rattle.std.proofs.Common.{◌≡◌, ◌≢◌, refl, sym, ap, ap₂, ◌∙◌, subst, ℕ, ◌≤◌, ◌<◌, Bool, true, false, ◌&&◌, ◌||◌, not, List, [], ◌∷◌, ◌++◌, Some, ◌==◌, nat_lt, nat_le, cond, arith, slice_index, slice_set, append-nil, append_assoc}
 use Rattle.std.proofs.lemmas.List.{get_or-set_other}
-use Rattle.std.proofs.lemmas.Bool.{eqb-true, eqb-false}
+use Rattle.std.proofs.lemmas.Bool.{eqb-true, eqb-false, not-true}
 use Rattle.std.proofs.lemmas.Bool.Decides.{eqb_tells}
 use Rattle.std.proofs.Common.{leb-true, ltb-true}
 use Rattle.pdl_semantics.specs.Flat.{Op, Bind, CombRead, DelayedRead, Write, ReserveWrite, Release, Verify, Stmt, value_of, all_hold, Commit, of_mem}
@@ -13,7 +13,6 @@ use Rattle.pdl_theory_derived.specs.Alone.{World, alone, before, answered_op, is
 use Rattle.pdl_theory_derived.proofs.Writes.{and_left, and_right, of_mem_append}
 use Rattle.pdl_theory_derived.proofs.Entries.{released_other, write_of, places}
 use Rattle.pdl_theory_derived.proofs.Slots.{rev}
-use Rattle.pdl_theory_turns.proofs.Phases.{not_false}
 use Rattle.pdl_theory_facts.specs.Scans.{Phase, after_write, after_reserve, may_write, next_phase, all_at, none_of}
 use Rattle.pdl_theory_turns.proofs.SequentialThread.{Related, Ok}
 use Rattle.pdl_theory_derived.proofs.Stages.{step}
@@ -132,7 +131,7 @@ places_append (x ∷ xs) ys = ap (λ l. x.address ∷ l) (places_append xs ys)
 spots_set : (ph : Phase) (env : List ℕ) (ws : List Commit) (x v : ℕ)
     → not (is_among x ph.unwritten) ≡ true → spots ph (slice_set env x v) ws ≡ spots ph env ws
 spots_set ph env ws x v h =
-    ap (λ l. places ws ++ rev l) (addresses_set env ph.unwritten x v (not_false _ h))
+    ap (λ l. places ws ++ rev l) (addresses_set env ph.unwritten x v (not-true _ h))
 
 -- they stay over what doesn't reserve m
 

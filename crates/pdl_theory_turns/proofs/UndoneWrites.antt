@@ -1,6 +1,7 @@
 -- A turn's undone writes with what is known of them, by stages.
 use Rattle.std.proofs.Common.{◌≡◌, ◌≢◌, refl, sym, ap, ap₂, ◌∙◌, ℕ, suc, ◌+◌, ◌≤◌, ◌<◌, Bool, true, false, ◌&&◌, List, [], ◌∷◌, ◌++◌, length, is_some, ◌==◌, nat_lt, cond, if◌then◌else◌, arith, eq-eqb, slice_index, append-nil, append_assoc, length-append}
 use Rattle.std.proofs.Common.{ltb-true, ltb-false, lt-ltb}
+use Rattle.std.proofs.lemmas.List.{append_cancel_left}
 use Rattle.pdl_semantics.specs.Flat.{Op, Write, Stmt, Pipe, value_of, all_hold, Commit, of_mem, Verify}
 use Rattle.pdl_semantics.specs.Stages.{in_stage, mem_at, commit_stage, reserve_stage}
 use Rattle.pdl_semantics.specs.Locks.{Latest, Coming, Known, as_latest}
@@ -98,15 +99,6 @@ runs_more m (x ∷ xs) r = at (all_hold x.guards r.env) (runs_more m xs (run_aft
         let here = run_more m x.op r in
         (here.0 ++ rest.0, rest.1 ∙ ap (λ l. l ++ rest.0) here.1 ∙ append_assoc (of_mem m r.writes) here.0 rest.0)
     at false rest on = on
-
--- what is left behind a common beginning
-pub same_rest : (xs ys zs : List ℕ) → xs ++ ys ≡ xs ++ zs → ys ≡ zs
-same_rest [] ys zs h = h
-same_rest (x ∷ xs) ys zs h = same_rest xs ys zs (ap tail h)
-  where
-    tail : List ℕ → List ℕ
-    tail [] = []
-    tail (y ∷ ys) = ys
 
 later_split : (m c s b b' : ℕ) (ws xs : List Commit)
     → strips m (marked b ws) ≡ ws → cond (nat_lt c s) [] ws ≡ xs ++ cond (nat_lt c (suc s)) [] ws → (s ≢ c → xs ≡ [])
@@ -207,7 +199,7 @@ module _ (p : Pipe) (acc : Accepted p) (world : World) (args : List ℕ) where
       more = (writes_first s m).0
 
       to_come : places more ≡ rev (addresses_at (so_far p world args s).env xs)
-      to_come = same_rest (places ws) _ _ (sym (places_append ws more) ∙ ap places (sym (writes_first s m).1) ∙ sym (all_places p acc world args s m h))
+      to_come = append_cancel_left (places ws) _ _ (sym (places_append ws more) ∙ ap places (sym (writes_first s m).1) ∙ sym (all_places p acc world args s m h))
 
       at : (b : Bool) → nat_lt (commit_stage p m) s ≡ b
           → latest_in (entries_of m (so_far p world args s).entries) m a rest

@@ -4,7 +4,7 @@ use denote.Ref.{Bor}
 use Rattle.std.specs.Option.{option_copied}
 use Rattle.std.specs.List.{range_with_len}
 use Rattle.std.specs.Cmp.Lexicographic.{pointwise}
-use Rattle.std.proofs.lemmas.List.{drop_more, drop_all, map_more}
+use Rattle.std.proofs.lemmas.List.{drop_more, drop_all, map_more, append_cancel_left}
 use Rattle.std.proofs.lemmas.Slice.Eq.{bytes_eq-Decides, strip_prefix_is}
 use Rattle.std.proofs.lemmas.Bool.Decides.{same_from_decides, Decides-eqb}
 use Rattle.std.specs.Option.{option_map}
@@ -46,15 +46,11 @@ pub stripped : (s p : List ℕ) (r : Option (Bor (List ℕ)))
     → option_copied r ≡ strip p s
 stripped s p r h = stripped_as p s r (strip_prefix_is Decides-eqb s p r h)
 
-front-cancel : (p x y : List ℕ) → p ++ x ≡ p ++ y → x ≡ y
-front-cancel [] x y e = e
-front-cancel (c ∷ cs) x y e = front-cancel cs x y cc
-
 same_front : (p x y : List ℕ) → bytes_eq x y ≡ bytes_eq (p ++ x) (p ++ y)
 same_front p x y =
     let a = bytes_eq-Decides x y in
     let b = bytes_eq-Decides (p ++ x) (p ++ y) in
-    same_from_decides _ _ a (λ e. front-cancel p x y (b.0 e), λ e. b.1 (ap (λ z. p ++ z) e))
+    same_from_decides _ _ a (λ e. append_cancel_left p x y (b.0 e), λ e. b.1 (ap (λ z. p ++ z) e))
 
 -- what is left of a name after a prefix is y just where the name is the prefix and y
 pub named_some : (s p y x : List ℕ) → Some x ≡ strip p s → bytes_eq x y ≡ bytes_eq s (p ++ y)

@@ -66,8 +66,9 @@ one_more : (v k : ℕ) → v / 2 ^ k / 2 ≡ v / 2 ^ (k + 1)
 one_more v k = div-div-eq-div-mul v (2 ^ k) 2 ∙ ap (λ n. v / n) (sym (pow-add 2 k 1))
 
 -- the highest digits with the next
-pub binary_next : (count done v : ℕ) → done < count →
-    binary (done + 1) (v / 2 ^ (count - (done + 1))) ≡ binary done (v / 2 ^ (count - done)) ++ (48 + v / 2 ^ (count - 1 - done) % 2) ∷ []
+pub binary_next : (count done v : ℕ)
+    → done < count
+    → binary (done + 1) (v / 2 ^ (count - (done + 1))) ≡ binary done (v / 2 ^ (count - done)) ++ (48 + v / 2 ^ (count - 1 - done) % 2) ∷ []
 binary_next count done v h =
     let one : count - done ≡ count - 1 - done + 1 = omega arith in
     let same : count - (done + 1) ≡ count - 1 - done = omega arith in
