@@ -19,7 +19,7 @@ use Rattle.pdl_net.specs.Run.{delayed_mems}
 use Rattle.pdl_law_parts.specs.Places.{delayed_count}
 use Rattle.pdl_law_parts.proofs.WellFormedNames.{Among, name_apart}
 use Rattle.pdl_law_parts.proofs.WellFormedMems.{sized_among, few_mems}
-use Rattle.pdl_law_follows.proofs.law.Places as places
+use Rattle.pdl_law_follows.proofs.Places as places
 use Rattle.pdl_law_follows.specs.Memories.{answers_late, delayed_of, comb_of, net_infos}
 use Rattle.pdl_law_follows.specs.Follows.{Follows}
 use Rattle.pdl_law_follows.proofs.Memories.{among_some, some_count, told_delayed, all_told, none_told}

@@ -18,9 +18,9 @@ use Rattle.pdl_law_parts.specs.Views.{View, Gates}
 use Rattle.pdl_law_parts.proofs.WellFormedMems.{few_mems}
 use Rattle.pdl_law_parts.proofs.WellFormedStages.{few_stages}
 use Rattle.pdl_law_sides.specs.Sides.{Sides}
-use Rattle.pdl_law.specs.StandingStates.{IsLawful}
-use Rattle.pdl_law.proofs.FromRules.{lawful_source}
-use Rattle.pdl_law.proofs.ShowsSource.{shows_source}
+use Rattle.pdl_law_follows.specs.StandingStates.{IsLawful}
+use Rattle.pdl_law_follows.proofs.FromRules.{lawful_source}
+use Rattle.pdl_law_follows.proofs.ShowsSource.{shows_source}
 use Rattle.pdl_law_follows.specs.Follows.{Follows, IsMade}
 use Rattle.pdl_law_follows.proofs.Ports.{AreAsked}
 use Rattle.pdl_law_follows.proofs.WellFormed.{AreDeclared, ports, well_formed}

@@ -16,8 +16,8 @@ use Rattle.pdl_law_parts.specs.Walk.{Locks}
 use Rattle.pdl_law_parts.specs.Places.{delayed_count, comb_place, net_place}
 use Rattle.pdl_law_parts.specs.DeclaredMems.{mem_names}
 use Rattle.pdl_law_sides.specs.WholeNetlist.{names_delayed, HasWholeMems}
-use Rattle.pdl_law.proofs.Places as places
-use Rattle.pdl_law.proofs.Places.{fewer_before, place_delayed, place_comb}
+use Rattle.pdl_law_follows.proofs.Places as places
+use Rattle.pdl_law_follows.proofs.Places.{fewer_before, place_delayed, place_comb}
 use Rattle.pdl_law_follows.specs.Memories.{answers_late, delayed_of, comb_of, net_infos}
 use Rattle.pdl_law_follows.proofs.Memories.{some_count, some_at, told_at, told_delayed, all_told, none_told, names_told, as_many}
 

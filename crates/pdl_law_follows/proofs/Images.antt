@@ -23,7 +23,7 @@ use Rattle.pdl_law_parts.specs.Runs.{commit_mem}
 use Rattle.pdl_law_parts.proofs.WellFormedNames.{Among}
 use Rattle.pdl_law_parts.proofs.LinesColumns.{declared_found}
 use Rattle.pdl_law_sides.specs.WholeNetlist.{in_order}
-use Rattle.pdl_law.proofs.Places.{place_low}
+use Rattle.pdl_law_follows.proofs.Places.{place_low}
 use Rattle.pdl_law_follows.specs.Memories.{answers_late, delayed_of, comb_of, net_infos, taken_in_order}
 use Rattle.pdl_law_follows.proofs.Memories.{none_named, as_many}
 use Rattle.pdl_law_follows.proofs.HasMems.{told_here}

@@ -35,8 +35,8 @@ use Rattle.pdl_law_parts.proofs.LinesColumns.{AreFound, locked_infos, locked_lin
 use Rattle.pdl_law_parts.proofs.LinesEnds.{map_same, bit_one, last_two, end_of, same_end}
 use Rattle.pdl_law_parts.proofs.LinesEnds as line
 use Rattle.pdl_law_sides.specs.WholeNetlist.{in_order, all_request_values, whole_values, whole_had}
-use Rattle.pdl_law.specs.StandingStates.{IsKnown}
-use Rattle.pdl_law.proofs.ShowsSource.{known_source}
+use Rattle.pdl_law_follows.specs.StandingStates.{IsKnown}
+use Rattle.pdl_law_follows.proofs.ShowsSource.{known_source}
 use Rattle.pdl_law_follows.specs.Memories.{delayed_of, replies_in}
 use Rattle.pdl_law_follows.specs.Follows.{Follows}
 use Rattle.pdl_law_follows.specs.Runs.{ShowsTurns}

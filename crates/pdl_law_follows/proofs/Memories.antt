@@ -15,8 +15,8 @@ use Rattle.pdl_rules.specs.Memories.{info_of}
 use Rattle.pdl_law_parts.specs.DeclaredMems.{has_lock, mem_names}
 use Rattle.pdl_law_parts.proofs.WellFormedNames.{Among}
 use Rattle.pdl_law_sides.specs.WholeNetlist.{names_delayed}
-use Rattle.pdl_law.proofs.Places.{count_yes, count_no}
-use Rattle.pdl_law.proofs.Places as places
+use Rattle.pdl_law_follows.proofs.Places.{count_yes, count_no}
+use Rattle.pdl_law_follows.proofs.Places as places
 use Rattle.pdl_law_follows.specs.Memories.{delayed_of, comb_of}
 
 -- ---- some of the memories

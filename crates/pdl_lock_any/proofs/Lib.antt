@@ -1,1 +1,9 @@
+pub mod Standing
+pub mod Counts
+pub mod Cycles
+pub mod Tails
+pub mod Histories
+pub mod Orders
+pub mod Squashes
+pub mod Rows
 pub mod AskedKinds

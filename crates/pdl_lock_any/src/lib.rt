@@ -1,9 +1,10 @@
-//! A lock of any of the three kinds, chosen when a pipe is compiled.
+//! A lock of any of the three kinds, chosen when a pipe is compiled, and proper use of a lock told by its history: what the cycles so far did to it.
 //!
-//! The layers above may use `AnyLock` by the laws of `LockModule` alone, and the lemmas `Asked`, that the lock which a memory asks for serves it.
+//! The layers above may use `AnyLock` by the laws of `LockModule` alone, and the lemmas `Asked`, that the lock which a memory asks for serves it. `history` does nothing: its clauses are laws of the definitions of proper use.
 #![tactic(auto)]
 
 ghost use Rattle.pdl_lock_any.specs.Any.{any_kind, any_size, any_tickets, any_suits, any_placed, any_stands, any_stays};
+ghost use Rattle.pdl_lock_any.specs.Laws.{IsProperByState, IsCoveredByState, ArePending, DropsLater};
 
 use pdl_build::Builder;
 use pdl_bypass::BypassLock;
@@ -86,3 +87,11 @@ impl LockModule for AnyLock {
 
     ghost stays = { any_stays };
 }
+
+/// Where each cycle was proper use by what came before it, each is one by the lock's state, a look with a ticket that still stands is covered, and each squash drops what was reserved after its cycle.
+pub fn history()
+    ensures proper { IsProperByState }
+    ensures covered { IsCoveredByState }
+    ensures pending { ArePending }
+    ensures squash { DropsLater }
+{}

@@ -9,9 +9,9 @@ use Rattle.pdl_semantics.specs.Flatten.{mems_of, flat}
 use Rattle.pdl_semantics.specs.Stages.{plain_mem, list_any}
 use Rattle.pdl_semantics.specs.Machine.{fork_of}
 use Rattle.pdl_semantics.specs.Cycle.{first, state_after}
-use Rattle.pdl_theory_derived.specs.Derived
-use Rattle.pdl_theory_derived.specs.Simulation.{hints_of}
-use Rattle.pdl_theory_facts.specs.Facts.{Sound}
+use Rattle.pdl_theory_turns.specs.Derived
+use Rattle.pdl_theory_turns.specs.Simulation.{hints_of}
+use Rattle.pdl_theory_turns.specs.Facts.{Sound}
 use Rattle.pdl_theory_states.specs.Strict.{Strict}
 use Rattle.pdl_theory_states.proofs.ReachedStates.{reached}
 use Rattle.pdl_theory_simulation.proofs.AcceptedFacts.{sound_flows}
@@ -30,7 +30,7 @@ use Rattle.pdl_image.specs.Images.{IsImage}
 use Rattle.pdl_machine_run.specs.Running.{IsRunnable, AreImages}
 use Rattle.pdl_rules.specs.Memories.{infos_of}
 use Rattle.pdl_rules.proofs.ToldMemories.{infos_count}
-use Rattle.pdl_theory_derived.specs.Derived.{Hint}
+use Rattle.pdl_theory_turns.specs.Derived.{Hint}
 
 -- THE PIPE
 

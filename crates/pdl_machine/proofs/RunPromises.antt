@@ -11,7 +11,7 @@ use Rattle.pdl_semantics.specs.Promises.{Refines, Advances, KeepsPace, DifferInA
 use Rattle.pdl_semantics.specs.UpdateFree.{UpdatesAreIdle}
 use Rattle.pdl_semantics.specs.Sound.{is_sound}
 use Rattle.pdl_semantics.proofs.UpdateFree.{updates_idle}
-use Rattle.pdl_theory_facts.specs.Facts.{Sound}
+use Rattle.pdl_theory_turns.specs.Facts.{Sound}
 use Rattle.pdl_rules.specs.Refusal.{KeepsRules}
 use Rattle.pdl_source_paths.specs.Source.{is_source, is_named}
 use Rattle.pdl_theory.proofs.StatedTheorems.{whole_refines, whole_advances, whole_paces, whole_idle, updates_alike}

@@ -4,7 +4,7 @@ use Rattle.std.proofs.lemmas.Bool.{and_parts, or_left, or_right, eqb-true, leb-t
 use Rattle.pdl_semantics.specs.Flat.{Op, Bind, CombRead, DelayedRead, Write, ReserveRead, ReserveWrite, Block, Release, Call, SpecCall, Verify, SpecCheck, SpecBarrier, AdviceBind, AdviceRead, AdviceWrite, Stmt, Pipe, all_hold}
 use Rattle.pdl_semantics.specs.Stages.{list_any, in_stage, is_verify, is_check, verify_stage}
 use Rattle.pdl_semantics.specs.Machine.{State, Thread, Ask, Deeds, same_args, deeds_after, deeds_after_all, deeds, word_for, checked_args}
-use Rattle.pdl_theory_facts.specs.Scans.{all_at}
+use Rattle.pdl_theory_turns.specs.Scans.{all_at}
 use Rattle.pdl_machine_inflight.specs.Readings.{reading, IsTheReading, Reads}
 use Rattle.pdl_word.specs.Each.{Each}
 use Rattle.pdl_word.proofs.Each.{each_push}

@@ -7,9 +7,9 @@ use Rattle.pdl_semantics.specs.Stages.{onpath, stage_at}
 use Rattle.pdl_semantics.specs.Machine.{Ask, Awaited, Thread, Owned, State, request_of}
 use Rattle.pdl_semantics.specs.Cycle.{first, state_after}
 use Rattle.pdl_semantics.specs.Sound.{stages_before}
-use Rattle.pdl_theory_facts.specs.Facts.{Sound}
-use Rattle.pdl_theory_derived.specs.Derived
-use Rattle.pdl_theory_derived.specs.Derived.{awaits_mem, asked_at}
+use Rattle.pdl_theory_turns.specs.Facts.{Sound}
+use Rattle.pdl_theory_turns.specs.Derived
+use Rattle.pdl_theory_turns.specs.Derived.{awaits_mem, asked_at}
 use Rattle.pdl_theory_simulation.proofs.Stretches.{AllFetched, on_way}
 use Rattle.pdl_theory_simulation.proofs.Seats.{Live, seat}
 use Rattle.pdl_theory_simulation.proofs.Choices.{AllOwned, Matched}
@@ -17,7 +17,7 @@ use Rattle.pdl_theory_simulation.proofs.Choices
 use Rattle.pdl_theory_simulation.proofs.SimulatedStates.{Sim}
 use Rattle.pdl_theory_states.specs.Strict.{Strict}
 use Rattle.pdl_theory_states.proofs.PastStatements.{AskedBy}
-use Rattle.pdl_theory_derived.specs.Simulation.{hints_of}
+use Rattle.pdl_theory_turns.specs.Simulation.{hints_of}
 use Rattle.pdl_theory_states.proofs.UnusedValues.{AnyOp, onto}
 use Rattle.pdl_theory_states.proofs.ThreadHistory.{AnyAsk, past_of, any_of}
 use Rattle.pdl_theory_states.proofs.ThreadFacts.{Owns, Lasting, Along}

@@ -6,9 +6,9 @@ use Rattle.std.proofs.lemmas.List.Recursion.{is_count_by}
 use Rattle.pdl_semantics.specs.Flat.{Pipe, Branch, Stage}
 use Rattle.pdl_semantics.specs.Stages.{stage_at, last_stage, list_any, is_inside, sides_of}
 use Rattle.pdl_semantics.specs.Machine.{State, fork_of}
-use Rattle.pdl_theory_facts.proofs.Nested.{inside_at, sides_inside, sides_outside}
+use Rattle.pdl_theory_turns.proofs.Nested.{inside_at, sides_inside, sides_outside}
 use Rattle.pdl_theory_simulation.proofs.FlowFacts.{Ways}
-use Rattle.pdl_theory_derived.specs.Derived
+use Rattle.pdl_theory_turns.specs.Derived
 use Rattle.pdl_theory_simulation.proofs.Stretches.{Behind, less_home}
 use Rattle.pdl_theory_simulation.proofs.Seats.{Live, seat, find, Ordered}
 use Rattle.pdl_theory_simulation.proofs.ThreadFacts.{sides}

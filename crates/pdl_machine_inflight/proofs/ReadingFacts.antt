@@ -5,7 +5,7 @@ use Rattle.std.proofs.lemmas.Bool.{eqb-true, false≢true}
 use Rattle.pdl_semantics.specs.Flat.{Op, Bind, CombRead, DelayedRead, Write, ReserveRead, ReserveWrite, Block, Release, Call, SpecCall, Verify, SpecCheck, SpecBarrier, AdviceBind, AdviceRead, AdviceWrite, Stmt, Next, Ends, Goes, Forks, Pipe}
 use Rattle.pdl_semantics.specs.Stages.{in_stage, goes_to}
 use Rattle.pdl_semantics.specs.Sound.{is_delayed_read}
-use Rattle.pdl_theory_facts.specs.Scans.{none_of}
+use Rattle.pdl_theory_turns.specs.Scans.{none_of}
 use Rattle.pdl_machine_inflight.specs.Readings.{reading, places_of, place_to, IsTheReading}
 use Rattle.pdl_machine_inflight.specs.InFlight.{Some-of}
 use Rattle.pdl_word.specs.Each.{Each}

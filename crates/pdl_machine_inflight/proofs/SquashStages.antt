@@ -7,11 +7,11 @@ use Rattle.pdl_semantics.specs.Flat.{Op, Verify, Stmt, Branch, Pipe, list_all, a
 use Rattle.pdl_semantics.specs.Stages.{list_any, onpath, in_stage, stage_at, is_verify, is_check, verify_stage}
 use Rattle.pdl_semantics.specs.Updates.{is_update, first_update, earlier, listed, squash_stages}
 use Rattle.pdl_semantics.specs.Machine.{State, Thread, deeds}
-use Rattle.pdl_theory_derived.specs.Alone.{answered_op}
-use Rattle.pdl_theory_facts.specs.Scans.{none_of, all_at}
-use Rattle.pdl_theory_facts.specs.GuessScans.{Making, Unmade, next_making, making_ok, makings_ok, is_guessed, stands_at, stands_before}
-use Rattle.pdl_theory_facts.specs.Graphs.{Trunk}
-use Rattle.pdl_theory_facts.specs.Facts.{Sound, looked_all, trunk_only}
+use Rattle.pdl_theory_turns.specs.Alone.{answered_op}
+use Rattle.pdl_theory_turns.specs.Scans.{none_of, all_at}
+use Rattle.pdl_theory_turns.specs.GuessScans.{Making, Unmade, next_making, making_ok, makings_ok, is_guessed, stands_at, stands_before}
+use Rattle.pdl_theory_turns.specs.Graphs.{Trunk}
+use Rattle.pdl_theory_turns.specs.Facts.{Sound, looked_all, trunk_only}
 use Rattle.pdl_theory_simulation.proofs.theory_turns.StrayPaths.{verify_looked}
 use Rattle.pdl_machine_inflight.specs.InFlight.{Some-of, UpdatesTogether}
 use Rattle.pdl_machine_inflight.proofs.DeedsIn.{has_check, fails_checked}

@@ -7,11 +7,11 @@ use Rattle.pdl_word.proofs.Bools.{by_or, same_bools}
 use Rattle.pdl_semantics.specs.Flat.{Pipe}
 use Rattle.pdl_semantics.specs.Stages.{list_any, verify_stage}
 use Rattle.pdl_semantics.specs.Updates.{squash_stages}
-use Rattle.pdl_theory_facts.specs.Graphs.{Trunk}
+use Rattle.pdl_theory_turns.specs.Graphs.{Trunk}
 use Rattle.pdl_semantics.specs.Machine.{Thread, State, deeds, with_answers}
 use Rattle.pdl_semantics.specs.Moves.{Act, next_stage, no_failure, blocks_ready, have_room, is_empty, ports_free, none_up_to, barrier_clear, can_enter, merges_well}
 use Rattle.pdl_semantics.specs.Cycle.{squasher, squash_stage, is_kept, merges_by}
-use Rattle.pdl_theory_facts.specs.Facts.{Sound}
+use Rattle.pdl_theory_turns.specs.Facts.{Sound}
 use Rattle.pdl_machine_facts.specs.Slots.{slot, with_now, here, slot_moves, later_acts, stage_moves, mover, movers_from, moving}
 use Rattle.pdl_machine_inflight.specs.InFlight.{InFlight, Some-of, UpdatesTogether}
 use Rattle.pdl_machine_inflight.proofs.SquashStages.{MaySquash, v_low, fails_in, fails_trunk}

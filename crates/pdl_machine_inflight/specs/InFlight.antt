@@ -3,8 +3,8 @@ use Rattle.std.specs.Prelude.{◌≡◌, ℕ, ◌<◌, ◌≤◌, true, List, []
 use Rattle.pdl_word.specs.Each.{Each}
 use Rattle.pdl_semantics.specs.Flat.{Pipe}
 use Rattle.pdl_semantics.specs.Updates.{is_update, first_update}
-use Rattle.pdl_theory_facts.specs.Scans.{all_at}
-use Rattle.pdl_theory_facts.specs.Graphs.{Trunk}
+use Rattle.pdl_theory_turns.specs.Scans.{all_at}
+use Rattle.pdl_theory_turns.specs.Graphs.{Trunk}
 use Rattle.pdl_semantics.specs.Machine.{Awaited, Thread, Owned, State, request_of, fork_of}
 use Rattle.pdl_semantics.specs.Cycle.{for_mems}
 use Rattle.pdl_machine_facts.specs.Slots.{slot}

@@ -6,7 +6,7 @@
 ghost use Rattle.std.specs.Prelude.{Bool, List};
 ghost use Rattle.pdl_semantics.specs.Flat.{Arrays, Pipe};
 ghost use Rattle.pdl_semantics.specs.Cycle.{first, state_after};
-ghost use Rattle.pdl_theory_facts.specs.Facts.{Sound};
+ghost use Rattle.pdl_theory_turns.specs.Facts.{Sound};
 ghost use Rattle.pdl_theory_states.specs.Strict.{Strict};
 ghost use Rattle.pdl_machine_inflight.specs.Readings.{Reads};
 ghost use Rattle.pdl_machine_inflight.specs.InFlight.{InFlight};

@@ -5,7 +5,7 @@ use Rattle.pdl_semantics.specs.Flat.{Pipe, list_all}
 use Rattle.pdl_semantics.specs.Locks.{has_room}
 use Rattle.pdl_semantics.specs.Stages.{mem_at}
 use Rattle.pdl_semantics.specs.Machine.{State, Thread, Pending, Reserved, reserves_of, lock_of, with_answers, deeds}
-use Rattle.pdl_theory_derived.proofs.Writes.{and_left, and_right}
+use Rattle.pdl_theory_turns.proofs.Writes.{and_left, and_right}
 use Rattle.pdl_semantics.specs.Moves.{Act, act, acts, all_acts}
 use Rattle.pdl_semantics.specs.Cycle.{new_entries, with_reserves}
 use Rattle.pdl_lockapi.specs.Forget as forget

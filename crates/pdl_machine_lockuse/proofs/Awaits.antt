@@ -5,9 +5,9 @@ use Rattle.pdl_semantics.specs.Flat.{Pipe, Op, DelayedRead, Stmt, Guard, all_hol
 use Rattle.pdl_semantics.specs.Stages.{list_any, onpath, in_stage, commit_stage}
 use Rattle.pdl_semantics.specs.Machine.{State, Awaited, Ask, answer_for, unanswered_reads}
 use Rattle.pdl_semantics.specs.Sound.{stages_before, is_delayed_read}
-use Rattle.pdl_theory_facts.specs.Scans.{none_of, is_dead}
-use Rattle.pdl_theory_facts.specs.Graphs.{next_of, stage_or}
-use Rattle.pdl_theory_facts.specs.Facts.{Sound, FetchOk, FetchIf, AllFetches}
+use Rattle.pdl_theory_turns.specs.Scans.{none_of, is_dead}
+use Rattle.pdl_theory_turns.specs.Graphs.{next_of, stage_or}
+use Rattle.pdl_theory_turns.specs.Facts.{Sound, FetchOk, FetchIf, AllFetches}
 use Rattle.pdl_theory_turns.proofs.Paths.{dead_none}
 use Rattle.pdl_theory_simulation.proofs.FlowFacts.{Leads}
 use Rattle.pdl_theory_simulation.proofs.Stretches.{Fetched, AllFetched}

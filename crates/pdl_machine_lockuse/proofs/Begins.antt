@@ -9,15 +9,15 @@ use Rattle.pdl_semantics.specs.Machine
 use Rattle.pdl_semantics.specs.Sound.{stages_before, is_release_at, guess_after, guess_of}
 use Rattle.pdl_semantics.specs.Moves.{block_ready}
 use Rattle.pdl_semantics.specs.Promises.{DifferInAdvice}
-use Rattle.pdl_theory_derived.specs.Derived.{Entry, Work, Around, has_entry, latest, around, port_free}
-use Rattle.pdl_theory_derived.specs.Derived
-use Rattle.pdl_theory_derived.specs.Alone.{answered_op}
-use Rattle.pdl_theory_facts.specs.Scans.{no_guards, Phase, Fresh, phase_all, Scan, no_scan, has_location, scan_after, scan_after_all, op_ok, reads_ok, none_of, location}
-use Rattle.pdl_theory_facts.specs.GuessScans.{Making, Unmade, next_making, making_all, is_guessed}
-use Rattle.pdl_theory_facts.specs.Facts.{Sound, looked_all}
-use Rattle.pdl_theory_derived.proofs.Writes.{and_left, and_right}
-use Rattle.pdl_theory_derived.proofs.Entries.{entries_of, Open, Full, waiting, known, open_vars, full_vars}
-use Rattle.pdl_theory_derived.proofs.Deeds.{places, places_has, AllFit, Loosely, loose_step}
+use Rattle.pdl_theory_turns.specs.Derived.{Entry, Work, Around, has_entry, latest, around, port_free}
+use Rattle.pdl_theory_turns.specs.Derived
+use Rattle.pdl_theory_turns.specs.Alone.{answered_op}
+use Rattle.pdl_theory_turns.specs.Scans.{no_guards, Phase, Fresh, phase_all, Scan, no_scan, has_location, scan_after, scan_after_all, op_ok, reads_ok, none_of, location}
+use Rattle.pdl_theory_turns.specs.GuessScans.{Making, Unmade, next_making, making_all, is_guessed}
+use Rattle.pdl_theory_turns.specs.Facts.{Sound, looked_all}
+use Rattle.pdl_theory_turns.proofs.Writes.{and_left, and_right}
+use Rattle.pdl_theory_turns.proofs.Entries.{entries_of, Open, Full, waiting, known, open_vars, full_vars}
+use Rattle.pdl_theory_turns.proofs.Deeds.{places, places_has, AllFit, Loosely, loose_step}
 use Rattle.pdl_theory_turns.proofs.Paths.{Fixed, none_onpath}
 use Rattle.pdl_theory_turns.proofs.Surroundings.{Right, in_stage_all}
 use Rattle.pdl_theory_turns.proofs.StrayPaths.{verify_looked}

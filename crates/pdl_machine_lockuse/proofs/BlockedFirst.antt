@@ -12,8 +12,8 @@ use Rattle.pdl_rules.specs.Locks.{same_location, Hold, Nothing, Reserved, Blocke
 use Rattle.pdl_rules.specs.Typed.{is_named}
 use Rattle.pdl_rules.proofs.EachPlace.{Each, closing}
 use Rattle.pdl_rules.proofs.SingleWrites.{KeepsLocks}
-use Rattle.pdl_theory_derived.specs.Alone.{answered_op}
-use Rattle.pdl_theory_facts.specs.Facts.{looked_all}
+use Rattle.pdl_theory_turns.specs.Alone.{answered_op}
+use Rattle.pdl_theory_turns.specs.Facts.{looked_all}
 use Rattle.pdl_source_stages.proofs.Sites.{Site, front_of, place_of, All}
 use Rattle.pdl_source_stages.proofs.SiteFacts.{either_read, either_bind}
 use Rattle.pdl_source_paths.proofs.Numbers.{var_stays}

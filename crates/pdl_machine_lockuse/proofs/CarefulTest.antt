@@ -2,13 +2,13 @@
 use Rattle.std.proofs.Common.{◌≡◌, sym, ap, ◌∙◌, ℕ, Bool, true, ◌&&◌, ◌||◌, List, [], length, nat_lt, leb-true, nat_le}
 use Rattle.pdl_semantics.specs.Flat.{Pipe, Stmt, list_all, start_env}
 use Rattle.pdl_semantics.specs.Stages.{onpath, fork_guards}
-use Rattle.pdl_theory_facts.specs.Scans.{write_reserves}
-use Rattle.pdl_theory_facts.proofs.Texts.{below_at}
-use Rattle.pdl_theory_facts.specs.Checks.{guard_vars}
-use Rattle.pdl_theory_facts.specs.SoundChecks.{all_paths, all_guards}
-use Rattle.pdl_theory_derived.proofs.Writes.{and_left, and_right}
-use Rattle.pdl_theory_progress.proofs.Rates.{picks, among, among_append}
-use Rattle.pdl_theory_progress.proofs.TestedPaths.{all_picks, path_agree, agree_picks}
+use Rattle.pdl_theory_turns.specs.Scans.{write_reserves}
+use Rattle.pdl_theory_turns.proofs.Texts.{below_at}
+use Rattle.pdl_theory_turns.specs.Checks.{guard_vars}
+use Rattle.pdl_theory_turns.specs.SoundChecks.{all_paths, all_guards}
+use Rattle.pdl_theory_turns.proofs.Writes.{and_left, and_right}
+use Rattle.pdl_theory.proofs.Rates.{picks, among, among_append}
+use Rattle.pdl_theory.proofs.TestedPaths.{all_picks, path_agree, agree_picks}
 use Rattle.pdl_machine_lockuse.specs.Careful.{Careful, is_careful, all_keep_kind, all_let_in, all_few}
 
 module _ (p : Pipe) (low : list_all (λ g. nat_lt g (length (start_env p []))) (all_guards p) ≡ true) where

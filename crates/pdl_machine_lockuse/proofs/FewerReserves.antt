@@ -6,7 +6,7 @@ use Rattle.pdl_semantics.specs.Locks.{has_room}
 use Rattle.pdl_semantics.specs.Machine.{State, Deeds, Reserved, reserves_of, lock_of}
 use Rattle.pdl_semantics.specs.Moves.{have_room}
 use Rattle.pdl_semantics.proofs.Readiness.{room_fewer}
-use Rattle.pdl_theory_derived.proofs.Writes.{and_left, and_right}
+use Rattle.pdl_theory_turns.proofs.Writes.{and_left, and_right}
 
 count_front : (m : ℕ) (rs : List Reserved) (r : Reserved) → reserves_of m rs ≤ reserves_of m (rs ++ r ∷ [])
 count_front m [] r = omega arith

@@ -18,12 +18,12 @@ use Rattle.pdl_rules.specs.Refusal.{KeepsRules}
 use Rattle.pdl_rules.specs.Widths.{variables, are_no_arguments, breaks_w5}
 use Rattle.pdl_rules.proofs.EachPlace.{Each, closing}
 use Rattle.pdl_rules.proofs.SingleWrites.{KeepsLocks, any_weaker, any_front, reserves_alike}
-use Rattle.pdl_theory_derived.specs.Alone.{answered_op}
-use Rattle.pdl_theory_derived.proofs.Writes.{and_left, and_right}
-use Rattle.pdl_theory_facts.specs.Scans.{none_of, write_reserves}
+use Rattle.pdl_theory_turns.specs.Alone.{answered_op}
+use Rattle.pdl_theory_turns.proofs.Writes.{and_left, and_right}
+use Rattle.pdl_theory_turns.specs.Scans.{none_of, write_reserves}
 use Rattle.pdl_source_paths.proofs.Memories.{mems_length}
 use Rattle.pdl_source_paths.proofs.PathTests.{few_ok}
-use Rattle.pdl_theory_facts.specs.Facts.{looked_all}
+use Rattle.pdl_theory_turns.specs.Facts.{looked_all}
 use Rattle.pdl_theory_turns.proofs.Looks.{path_looked}
 use Rattle.pdl_source_stages.proofs.Sites.{Site, sites_of, front_of, place_of, own, owns, All, stmts_are}
 use Rattle.pdl_source_stages.proofs.SiteFacts.{either_read, either_bind, either_write}

@@ -4,8 +4,8 @@ use Rattle.std.proofs.lemmas.Bool.{or_right, eqb-true}
 use Rattle.pdl_semantics.specs.Flat.{Op, DelayedRead, Write, ReserveWrite, Block, Release, Verify, Pipe}
 use Rattle.pdl_semantics.specs.Stages.{commit_stage}
 use Rattle.pdl_semantics.specs.Machine.{HeldLocation, Deeds, deeds_after, is_held, let_go, held_after, same_args, checked_args}
-use Rattle.pdl_theory_derived.specs.Alone.{Location, answered_op}
-use Rattle.pdl_theory_facts.specs.Scans.{Phase, after_write, after_reserve, after_release, may_write, next_phase, Scan, has_location, scan_after, location}
+use Rattle.pdl_theory_turns.specs.Alone.{Location, answered_op}
+use Rattle.pdl_theory_turns.specs.Scans.{Phase, after_write, after_reserve, after_release, may_write, next_phase, Scan, has_location, scan_after, location}
 use Rattle.pdl_machine_lockuse.proofs.Reservations.{one_if, uses, Single, uses_reserve, uses_write, uses_release, single_op}
 use Rattle.pdl_theory_turns.proofs.Surroundings.{Right}
 use Rattle.pdl_theory_simulation.proofs.FlowFacts.{use_ok}

@@ -4,13 +4,13 @@ use Rattle.pdl_semantics.specs.Flat.{Arrays, Pipe}
 use Rattle.pdl_semantics.specs.Machine.{State}
 use Rattle.pdl_semantics.specs.Moves.{all_acts}
 use Rattle.pdl_semantics.specs.Cycle.{first, state_after}
-use Rattle.pdl_theory_derived.specs.Derived
-use Rattle.pdl_theory_facts.specs.Facts.{Sound}
+use Rattle.pdl_theory_turns.specs.Derived
+use Rattle.pdl_theory_turns.specs.Facts.{Sound}
 use Rattle.pdl_machine_facts.specs.Cycle.{IsByStages}
 use Rattle.pdl_machine_facts.specs.Use.{IsInUse}
 use Rattle.pdl_theory_states.specs.Strict.{Strict}
 use Rattle.pdl_theory_states.specs.Use.{AllActs, ShiftsTail, ReleasesWritten}
-use Rattle.pdl_theory_derived.specs.Simulation.{hints_of}
+use Rattle.pdl_theory_turns.specs.Simulation.{hints_of}
 use Rattle.pdl_theory_states.proofs.ReachedStates.{Reached, reached}
 use Rattle.pdl_machine_lockuse.specs.Careful.{Careful}
 use Rattle.pdl_machine_lockuse.specs.Use.{ReleasesOwn, ReleasesOlder, FindsAll, KeepsTail, LeavesTail, Cuts, IsSpared, WritesOnce, IsLet, AwaitsOlder}

@@ -9,13 +9,13 @@ use Rattle.pdl_semantics.specs.Locks.{has_room}
 use Rattle.pdl_semantics.specs.Sound.{stages_from}
 use Rattle.pdl_semantics.specs.Moves.{Act, acts, all_acts, movers, may_move, next_stage, no_failure, blocks_ready, have_room}
 use Rattle.pdl_semantics.specs.Cycle.{new_entries, with_reserves, with_all_writes, releases_of, all_releases, list_two, list_three, taken_out, is_kept, is_stage, squasher}
-use Rattle.pdl_theory_derived.specs.Derived
-use Rattle.pdl_theory_facts.specs.Scans.{is_plain, none_of, Fresh, phase_all, is_over}
-use Rattle.pdl_theory_facts.specs.Facts.{Sound}
-use Rattle.pdl_theory_facts.proofs.Nested.{within_all}
-use Rattle.pdl_theory_derived.proofs.Writes.{and_left, and_right}
-use Rattle.pdl_theory_derived.proofs.Entries.{entries_of}
-use Rattle.pdl_theory_derived.proofs.Lists.{pend}
+use Rattle.pdl_theory_turns.specs.Derived
+use Rattle.pdl_theory_turns.specs.Scans.{is_plain, none_of, Fresh, phase_all, is_over}
+use Rattle.pdl_theory_turns.specs.Facts.{Sound}
+use Rattle.pdl_theory_turns.proofs.Nested.{within_all}
+use Rattle.pdl_theory_turns.proofs.Writes.{and_left, and_right}
+use Rattle.pdl_theory_turns.proofs.Entries.{entries_of}
+use Rattle.pdl_theory_turns.proofs.Lists.{pend}
 use Rattle.pdl_theory_turns.proofs.OwnEntries.{pend_own}
 use Rattle.pdl_theory_turns.proofs.Looks.{path_looked}
 use Rattle.pdl_theory_simulation.proofs.AcceptedFacts.{sound_flows}

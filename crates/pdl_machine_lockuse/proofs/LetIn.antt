@@ -6,11 +6,11 @@ use Rattle.pdl_semantics.specs.Stages.{onpath, mem_at, reserve_stage, commit_sta
 use Rattle.pdl_semantics.specs.Locks.{read_ready, write_ready}
 use Rattle.pdl_semantics.specs.Machine.{State, Blocked, Deeds, deeds_after, is_held, older_write, word_for, same_args, checked_args}
 use Rattle.pdl_semantics.specs.Moves.{block_ready, blocks_ready, have_room}
-use Rattle.pdl_theory_derived.specs.Derived.{Around, Entry, has_entry}
-use Rattle.pdl_theory_derived.specs.Alone.{Location, answered_op}
-use Rattle.pdl_theory_facts.specs.Scans.{no_guards, Scan, is_address, has_location, scan_after, op_ok, reads_ok, location}
-use Rattle.pdl_theory_facts.specs.Facts.{looked_all, mentions_var}
-use Rattle.pdl_theory_derived.proofs.Writes.{and_left, and_right}
+use Rattle.pdl_theory_turns.specs.Derived.{Around, Entry, has_entry}
+use Rattle.pdl_theory_turns.specs.Alone.{Location, answered_op}
+use Rattle.pdl_theory_turns.specs.Scans.{no_guards, Scan, is_address, has_location, scan_after, op_ok, reads_ok, location}
+use Rattle.pdl_theory_turns.specs.Facts.{looked_all, mentions_var}
+use Rattle.pdl_theory_turns.proofs.Writes.{and_left, and_right}
 use Rattle.pdl_theory_turns.proofs.Surroundings.{Right, AllIn, right_set}
 use Rattle.pdl_machine_facts.specs.Slots.{locks_ready}
 use Rattle.pdl_machine_facts.specs.Use.{in_time, is_early}

@@ -5,11 +5,11 @@ use Rattle.std.proofs.lemmas.Bool.{false≢true, eqb-true}
 use Rattle.pdl_semantics.specs.Stages.{list_any}
 use Rattle.pdl_semantics.specs.Machine.{Pending, Written}
 use Rattle.pdl_semantics.specs.Cycle.{with_value_of, with_writes_of}
-use Rattle.pdl_theory_derived.specs.Alone.{is_oldest}
-use Rattle.pdl_theory_facts.specs.Scans.{Phase}
-use Rattle.pdl_theory_derived.proofs.Writes.{and_right}
-use Rattle.pdl_theory_derived.proofs.Entries.{entry, Open, Full, waiting, known, open_vars, full_vars}
-use Rattle.pdl_theory_derived.proofs.Lists.{own, pend}
+use Rattle.pdl_theory_turns.specs.Alone.{is_oldest}
+use Rattle.pdl_theory_turns.specs.Scans.{Phase}
+use Rattle.pdl_theory_turns.proofs.Writes.{and_right}
+use Rattle.pdl_theory_turns.proofs.Entries.{entry, Open, Full, waiting, known, open_vars, full_vars}
+use Rattle.pdl_theory_turns.proofs.Lists.{own, pend}
 use Rattle.pdl_theory_turns.proofs.Steps.{AreGiven, AllUsed, is_used}
 use Rattle.pdl_lockapi.specs.Forget.{has_place, place_of, IsOnce}
 use Rattle.pdl_lockapi.proofs.Places.{place_front}

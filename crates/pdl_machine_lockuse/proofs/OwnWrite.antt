@@ -8,16 +8,16 @@ use Rattle.pdl_semantics.specs.Moves.{block_ready, next_stage}
 use Rattle.pdl_semantics.specs.Promises.{DifferInAdvice}
 use Rattle.pdl_semantics.specs.Cycle.{new_entries, with_writes_of, releases_of, is_stage}
 use Rattle.pdl_semantics.proofs.Facts.{put_all_length}
-use Rattle.pdl_theory_derived.specs.Alone.{is_nil, is_among, is_oldest, drop_var, but_last}
-use Rattle.pdl_theory_derived.specs.Derived
-use Rattle.pdl_theory_derived.specs.Derived.{Entry, Work, Around, around, port_free}
-use Rattle.pdl_theory_facts.specs.Scans.{Phase, Fresh, after_write, after_reserve, after_release, may_write, is_new, next_phase, phase_all, write_reserves}
-use Rattle.pdl_theory_facts.specs.Facts.{Sound}
-use Rattle.pdl_theory_facts.proofs.Apart.{total, oldest_length, oldest_among}
-use Rattle.pdl_theory_derived.proofs.Writes.{and_left, and_right}
-use Rattle.pdl_theory_derived.proofs.Entries.{entries_of, entry, Open, Full, waiting, known, open_vars, full_vars}
-use Rattle.pdl_theory_derived.proofs.Deeds.{AllFit, Loosely, loose_step}
-use Rattle.pdl_theory_derived.proofs.Lists.{own, pend}
+use Rattle.pdl_theory_turns.specs.Alone.{is_nil, is_among, is_oldest, drop_var, but_last}
+use Rattle.pdl_theory_turns.specs.Derived
+use Rattle.pdl_theory_turns.specs.Derived.{Entry, Work, Around, around, port_free}
+use Rattle.pdl_theory_turns.specs.Scans.{Phase, Fresh, after_write, after_reserve, after_release, may_write, is_new, next_phase, phase_all, write_reserves}
+use Rattle.pdl_theory_turns.specs.Facts.{Sound}
+use Rattle.pdl_theory_turns.proofs.Apart.{total, oldest_length, oldest_among}
+use Rattle.pdl_theory_turns.proofs.Writes.{and_left, and_right}
+use Rattle.pdl_theory_turns.proofs.Entries.{entries_of, entry, Open, Full, waiting, known, open_vars, full_vars}
+use Rattle.pdl_theory_turns.proofs.Deeds.{AllFit, Loosely, loose_step}
+use Rattle.pdl_theory_turns.proofs.Lists.{own, pend}
 use Rattle.pdl_theory_turns.proofs.Steps.{is_used, Here, new_more, pend_append}
 use Rattle.pdl_theory_turns.proofs.OwnEntries.{pend_own}
 use Rattle.pdl_theory_turns.proofs.Surroundings.{AllIn, in_stage_all}

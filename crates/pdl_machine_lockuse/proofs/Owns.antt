@@ -8,14 +8,14 @@ use Rattle.pdl_semantics.specs.Machine.{State, Pending, Written}
 use Rattle.pdl_semantics.specs.Moves.{Act, movers}
 use Rattle.pdl_semantics.specs.Cycle.{with_reserves, new_entries, releases_of, all_releases}
 use Rattle.pdl_semantics.specs.Sound.{entries_by}
-use Rattle.pdl_theory_derived.specs.Derived
-use Rattle.pdl_theory_facts.specs.Facts.{Sound}
+use Rattle.pdl_theory_turns.specs.Derived
+use Rattle.pdl_theory_turns.specs.Facts.{Sound}
 use Rattle.pdl_theory_simulation.proofs.AcceptedFacts.{sound_flows}
 use Rattle.pdl_theory_simulation.proofs.Seats.{Live, each_map, Falls, Ordered, lact, lacts, did, deeds_of}
 use Rattle.pdl_theory_simulation.proofs.ThreadFacts.{Pair, pairs, EachPair, pair_map, pair_both, pairs_each}
 use Rattle.pdl_theory_simulation.proofs.Choices.{AllKnown}
 use Rattle.pdl_theory_simulation.proofs.LockLists.{part, two, release_here, gone}
-use Rattle.pdl_theory_derived.proofs.Lists.{pend}
+use Rattle.pdl_theory_turns.proofs.Lists.{pend}
 use Rattle.pdl_lockapi.specs.Forget.{has_place}
 use Rattle.pdl_theory_simulation.proofs.Stretches.{left_trunk}
 use Rattle.pdl_machine_facts.proofs.StatementUses.{writes_to}

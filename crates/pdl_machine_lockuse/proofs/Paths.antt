@@ -7,14 +7,14 @@ use Rattle.pdl_semantics.specs.Stages.{list_any, onpath, in_stage, mem_at, is_re
 use Rattle.pdl_semantics.specs.Machine.{State}
 use Rattle.pdl_semantics.specs.Sound.{stages_before, stages_from, is_release_at}
 use Rattle.pdl_semantics.specs.Promises.{DifferInAdvice}
-use Rattle.pdl_theory_derived.specs.Derived
-use Rattle.pdl_theory_derived.specs.Derived.{Around, around}
-use Rattle.pdl_theory_derived.specs.Alone.{but_last, is_nil, answered_op}
-use Rattle.pdl_theory_facts.specs.Scans.{after_write, no_guards, is_plain, Phase, Fresh, next_phase, phase_all, is_over, Scan, no_scan, has_location, is_address, scan_after, scan_after_all, op_ok, reads_ok, none_of}
-use Rattle.pdl_theory_facts.specs.GuessScans.{Unmade, making_all, makings_ok}
-use Rattle.pdl_theory_facts.specs.Facts.{Sound, looked_all, at_once}
-use Rattle.pdl_theory_facts.specs.Accepted.{along}
-use Rattle.pdl_theory_derived.proofs.Writes.{and_left, and_right}
+use Rattle.pdl_theory_turns.specs.Derived
+use Rattle.pdl_theory_turns.specs.Derived.{Around, around}
+use Rattle.pdl_theory_turns.specs.Alone.{but_last, is_nil, answered_op}
+use Rattle.pdl_theory_turns.specs.Scans.{after_write, no_guards, is_plain, Phase, Fresh, next_phase, phase_all, is_over, Scan, no_scan, has_location, is_address, scan_after, scan_after_all, op_ok, reads_ok, none_of}
+use Rattle.pdl_theory_turns.specs.GuessScans.{Unmade, making_all, makings_ok}
+use Rattle.pdl_theory_turns.specs.Facts.{Sound, looked_all, at_once}
+use Rattle.pdl_theory_turns.specs.Accepted.{along}
+use Rattle.pdl_theory_turns.proofs.Writes.{and_left, and_right}
 use Rattle.pdl_theory_turns.proofs.Looks.{path_looked}
 use Rattle.pdl_theory_turns.proofs.Turn.{none_in_stage, none_from}
 use Rattle.pdl_theory_simulation.proofs.FlowFacts.{uses_ok, next_of}

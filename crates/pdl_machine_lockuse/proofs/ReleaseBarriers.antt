@@ -6,13 +6,13 @@ use Rattle.pdl_semantics.specs.Stages.{list_any, onpath, in_stage, stage_at, ver
 use Rattle.pdl_semantics.specs.Machine.{State}
 use Rattle.pdl_semantics.specs.Sound
 use Rattle.pdl_semantics.specs.Cycle.{releases_of}
-use Rattle.pdl_theory_derived.specs.Derived
-use Rattle.pdl_theory_derived.specs.Derived.{Around, around, befores, no_hint}
-use Rattle.pdl_theory_facts.specs.Scans.{Fresh, phase_all, phases_ok, no_scan, none_of}
-use Rattle.pdl_theory_facts.specs.GuessScans.{all_sure}
-use Rattle.pdl_theory_facts.specs.Facts.{Sound, trunk_only, looked_all, at_once}
-use Rattle.pdl_theory_facts.specs.Accepted.{along}
-use Rattle.pdl_theory_derived.proofs.Writes.{and_left, and_right}
+use Rattle.pdl_theory_turns.specs.Derived
+use Rattle.pdl_theory_turns.specs.Derived.{Around, around, befores, no_hint}
+use Rattle.pdl_theory_turns.specs.Scans.{Fresh, phase_all, phases_ok, no_scan, none_of}
+use Rattle.pdl_theory_turns.specs.GuessScans.{all_sure}
+use Rattle.pdl_theory_turns.specs.Facts.{Sound, trunk_only, looked_all, at_once}
+use Rattle.pdl_theory_turns.specs.Accepted.{along}
+use Rattle.pdl_theory_turns.proofs.Writes.{and_left, and_right}
 use Rattle.pdl_theory_turns.proofs.CertaintyScans.{sure_first}
 use Rattle.pdl_theory_turns.proofs.StrayPaths.{verify_looked}
 use Rattle.pdl_theory_turns.proofs.TurnPath
@@ -105,7 +105,7 @@ module _ (p : Pipe) (sound : Sound p) (st : State) (d : Derived.State) (bits : L
       (TurnPath.ok_before (along q (at_once p)) (sound.pathwise.paths q) (record { words = λ k a. 0; hint = no_hint }) [] n m))
       (subst (λ o. all_sure o false no_scan (looked_all way) ≡ true) (verify_looked p.stmts ∙ verifies)
       (subst (λ xs. all_sure (verify_stage (looked_all p.stmts)) false no_scan xs ≡ true) looked_way
-      (sure_first (verify_stage (looked_all p.stmts)) false no_scan (Rattle.pdl_theory_derived.specs.Alone.before n (onpath q (looked_all p.stmts)))
+      (sure_first (verify_stage (looked_all p.stmts)) false no_scan (Rattle.pdl_theory_turns.specs.Alone.before n (onpath q (looked_all p.stmts)))
       (stages_from n (onpath q (looked_all p.stmts)))
       (subst (λ xs. all_sure (verify_stage (looked_all p.stmts)) false no_scan xs ≡ true) ((sound.pathwise.paths q).ordered n) (sound.pathwise.sure q)))))
       (unbarred way clear)

@@ -6,11 +6,11 @@ use Rattle.pdl_semantics.specs.Flat.{Pipe, Op, CombRead, DelayedRead, Write, Blo
 use Rattle.pdl_semantics.specs.Stages.{list_any, onpath, is_release, commit_stage}
 use Rattle.pdl_semantics.specs.Machine.{State}
 use Rattle.pdl_semantics.specs.Moves.{Act}
-use Rattle.pdl_theory_derived.specs.Alone.{but_last, is_nil, before, answered_op}
-use Rattle.pdl_theory_facts.specs.Scans.{after_write, no_guards, Phase, Fresh, next_phase, phase_all, is_over, Scan, no_scan, scan_after, op_ok, reads_ok, all_at, none_of}
-use Rattle.pdl_theory_facts.specs.Facts.{Sound, looked_all, at_once}
-use Rattle.pdl_theory_facts.specs.Accepted.{Accepted, along}
-use Rattle.pdl_theory_derived.proofs.Writes.{and_left, and_right}
+use Rattle.pdl_theory_turns.specs.Alone.{but_last, is_nil, before, answered_op}
+use Rattle.pdl_theory_turns.specs.Scans.{after_write, no_guards, Phase, Fresh, next_phase, phase_all, is_over, Scan, no_scan, scan_after, op_ok, reads_ok, all_at, none_of}
+use Rattle.pdl_theory_turns.specs.Facts.{Sound, looked_all, at_once}
+use Rattle.pdl_theory_turns.specs.Accepted.{Accepted, along}
+use Rattle.pdl_theory_turns.proofs.Writes.{and_left, and_right}
 use Rattle.pdl_theory_turns.proofs.Looks.{path_looked}
 use Rattle.pdl_theory_simulation.proofs.AcceptedFacts.{sound_flows}
 use Rattle.pdl_theory_simulation.proofs.Shapes.{over_early}
@@ -136,7 +136,7 @@ module _ (p : Pipe) (sound : Sound p) (path : List ℕ) where
   accepted : Accepted (along path (at_once p))
   accepted = sound.pathwise.paths path
 
-  plain_to : (m : ℕ) → Rattle.pdl_theory_facts.specs.Scans.is_plain (Rattle.pdl_semantics.specs.Stages.mem_at (along path (at_once p)) m).lock ≡ true
+  plain_to : (m : ℕ) → Rattle.pdl_theory_turns.specs.Scans.is_plain (Rattle.pdl_semantics.specs.Stages.mem_at (along path (at_once p)) m).lock ≡ true
       → commit_stage p m ≡ length p.stages
   plain_to m e = accepted.plain_to m e
 

@@ -4,10 +4,10 @@ use Rattle.std.proofs.lemmas.Bool.{eqb-true, not-true}
 use Rattle.pdl_semantics.specs.Flat.{Op, Write, ReserveWrite, Release, Verify, Stmt, all_hold}
 use Rattle.pdl_semantics.specs.Stages.{onpath, is_write_reserve}
 use Rattle.pdl_semantics.specs.Machine.{Reserved, Deeds, deeds_after, deeds_after_all, reserves_of, same_args, checked_args}
-use Rattle.pdl_theory_derived.specs.Alone.{is_among, is_oldest, drop_var, but_last}
-use Rattle.pdl_theory_derived.proofs.Writes.{and_left, and_right}
-use Rattle.pdl_theory_facts.specs.Scans.{Phase, Fresh, after_write, after_reserve, after_release, may_write, is_new, next_phase, phase_all, write_reserves}
-use Rattle.pdl_theory_facts.proofs.Apart.{total, oldest_length, drop_length}
+use Rattle.pdl_theory_turns.specs.Alone.{is_among, is_oldest, drop_var, but_last}
+use Rattle.pdl_theory_turns.proofs.Writes.{and_left, and_right}
+use Rattle.pdl_theory_turns.specs.Scans.{Phase, Fresh, after_write, after_reserve, after_release, may_write, is_new, next_phase, phase_all, write_reserves}
+use Rattle.pdl_theory_turns.proofs.Apart.{total, oldest_length, drop_length}
 use Rattle.pdl_machine_facts.proofs.StatementUses.{IsAlong}
 use Rattle.pdl_theory_simulation.proofs.FlowFacts.{use_ok, uses_ok}
 

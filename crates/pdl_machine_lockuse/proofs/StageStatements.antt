@@ -7,12 +7,12 @@ use Rattle.pdl_semantics.specs.Locks.{read_ready, write_ready}
 use Rattle.pdl_semantics.specs.Machine.{State, Blocked, Deeds, all_values, deeds_after, is_held, older_write, word_for, same_args, checked_args}
 use Rattle.pdl_semantics.specs.Moves.{block_ready, blocks_ready, have_room}
 use Rattle.pdl_semantics.proofs.Readiness.{plain_ready}
-use Rattle.pdl_theory_derived.specs.Alone.{answered_op}
-use Rattle.pdl_theory_facts.specs.Scans.{no_guards, Phase, next_phase, Scan, is_plain, is_address, has_location, scan_after, op_ok, reads_ok, location}
-use Rattle.pdl_theory_facts.specs.GuessScans.{Making, next_making, making_ok, makings_ok, is_unmade, is_guessed, stands_at, stands_before}
+use Rattle.pdl_theory_turns.specs.Alone.{answered_op}
+use Rattle.pdl_theory_turns.specs.Scans.{no_guards, Phase, next_phase, Scan, is_plain, is_address, has_location, scan_after, op_ok, reads_ok, location}
+use Rattle.pdl_theory_turns.specs.GuessScans.{Making, next_making, making_ok, makings_ok, is_unmade, is_guessed, stands_at, stands_before}
 use Rattle.pdl_theory_turns.proofs.Guesses.{same_args_eq}
-use Rattle.pdl_theory_facts.specs.Facts.{looked_all}
-use Rattle.pdl_theory_derived.proofs.Writes.{and_left, and_right}
+use Rattle.pdl_theory_turns.specs.Facts.{looked_all}
+use Rattle.pdl_theory_turns.proofs.Writes.{and_left, and_right}
 use Rattle.pdl_theory_turns.proofs.Surroundings.{Right, AllIn, right_set}
 use Rattle.pdl_theory_simulation.proofs.FlowFacts.{use_ok, uses_ok}
 use Rattle.pdl_machine_facts.specs.Slots.{locks_ready}

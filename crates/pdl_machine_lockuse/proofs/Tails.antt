@@ -5,11 +5,11 @@ use Rattle.pdl_semantics.specs.Stages.{reserve_stage, commit_stage, verify_stage
 use Rattle.pdl_semantics.specs.Machine.{State, Pending}
 use Rattle.pdl_semantics.specs.Moves.{movers}
 use Rattle.pdl_semantics.specs.Cycle.{with_reserves, releases_of, all_releases}
-use Rattle.pdl_theory_derived.specs.Derived
-use Rattle.pdl_theory_facts.specs.Facts.{Sound}
+use Rattle.pdl_theory_turns.specs.Derived
+use Rattle.pdl_theory_turns.specs.Facts.{Sound}
 use Rattle.pdl_theory_turns.proofs.CourseOf
-use Rattle.pdl_theory_derived.proofs.Lists.{pend}
-use Rattle.pdl_theory_facts.specs.Graphs.{Trunk}
+use Rattle.pdl_theory_turns.proofs.Lists.{pend}
+use Rattle.pdl_theory_turns.specs.Graphs.{Trunk}
 use Rattle.pdl_theory_simulation.proofs.AcceptedFacts.{sound_flows}
 use Rattle.pdl_theory_simulation.proofs.Stretches.{Behind, left_trunk}
 use Rattle.pdl_theory_simulation.proofs.Seats.{Live, Falls, falls_each, Ordered, pends, lact, lacts, did, deeds_of}

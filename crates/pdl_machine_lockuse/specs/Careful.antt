@@ -3,8 +3,8 @@ use Rattle.std.specs.Prelude.{◌≡◌, ℕ, ◌≤◌, ◌<◌, Bool, true, fa
 use Rattle.pdl_semantics.specs.Flat.{list_all, Op, Bind, CombRead, DelayedRead, Write, ReserveRead, ReserveWrite, Block, Release, Call, SpecCall, Verify, SpecCheck, SpecBarrier, AdviceBind, AdviceRead, AdviceWrite, Stmt, Pipe, start_env}
 use Rattle.pdl_semantics.specs.Stages.{onpath}
 use Rattle.pdl_semantics.specs.Sound.{all_below}
-use Rattle.pdl_theory_facts.specs.Scans.{none_of, write_reserves}
-use Rattle.pdl_theory_facts.specs.SoundChecks.{all_paths, all_guards}
+use Rattle.pdl_theory_turns.specs.Scans.{none_of, write_reserves}
+use Rattle.pdl_theory_turns.specs.SoundChecks.{all_paths, all_guards}
 
 -- whether a statement reserves this location for writing
 abbrev pub reserves_at : ℕ → ℕ → Op → Bool

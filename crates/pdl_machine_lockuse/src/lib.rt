@@ -8,7 +8,7 @@ ghost use Rattle.pdl_semantics.specs.Tree;
 ghost use Rattle.pdl_semantics.specs.Flat.{Pipe};
 ghost use Rattle.pdl_semantics.specs.Flatten.{flat};
 ghost use Rattle.pdl_rules.specs.Refusal.{KeepsRules};
-ghost use Rattle.pdl_theory_facts.specs.Facts.{Sound};
+ghost use Rattle.pdl_theory_turns.specs.Facts.{Sound};
 ghost use Rattle.pdl_source_paths.specs.Source.{is_source, is_named};
 ghost use Rattle.pdl_theory_states.specs.Strict.{Strict};
 ghost use Rattle.pdl_theory_states.specs.Use.{ReleasesWritten, ShiftsTail};

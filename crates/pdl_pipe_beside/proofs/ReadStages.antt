@@ -7,7 +7,7 @@ use Rattle.pdl_semantics.specs.Flat as flat
 use Rattle.pdl_semantics.specs.Flat.{Op, Stmt, Next, Pipe}
 use Rattle.pdl_semantics.specs.Stages.{in_stage, stage_at, goes_to}
 use Rattle.pdl_semantics.specs.Sound.{is_fetch}
-use Rattle.pdl_theory_facts.specs.Scans.{none_of}
+use Rattle.pdl_theory_turns.specs.Scans.{none_of}
 use Rattle.pdl_machine_inflight.specs.Slots.{LeadsOn}
 use Rattle.pdl_machine_inflight.specs.Readings.{Reading, Reads, reading, reading_in, places_of}
 use Rattle.pdl_machine_inflight.proofs.ReadingFacts.{place_leads}

@@ -13,8 +13,8 @@ use Rattle.pdl_form_types.specs.Stmts.{AreTypedStmts, IsTypedForm}
 use Rattle.pdl_form_types.proofs.FormTyping.{typed_whole}
 use Rattle.pdl_law_parts.specs.Rows.{HasRow}
 use Rattle.pdl_law_parts.proofs.WellFormedStages.{few_stages}
-use Rattle.pdl_law_follows.specs.law.StandingStates.{IsLawful}
-use Rattle.pdl_law_follows.proofs.law.FromRules.{lawful_source}
+use Rattle.pdl_law_follows.specs.StandingStates.{IsLawful}
+use Rattle.pdl_law_follows.proofs.FromRules.{lawful_source}
 use Rattle.pdl_pipe_walk.specs.Sized.{AreWalked}
 use Rattle.pdl_pipe_beside.proofs.ReadStages.{reads_lead_on}
 use Rattle.pdl_pipe_beside.proofs.OrderParts.{forks_fit}

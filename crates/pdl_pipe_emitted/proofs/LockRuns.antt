@@ -33,12 +33,12 @@ use Rattle.pdl_law_parts.proofs.LockActs.{act_of, drives, filled_is, proper}
 use Rattle.pdl_law_parts.proofs.LockStep.{step_is}
 use Rattle.pdl_law_sides.specs.Sides.{Sides}
 use Rattle.pdl_law_sides.specs.WholeNetlist.{in_order, replies_of}
-use Rattle.pdl_law_follows.specs.law.StandingStates.{IsLawful, IsKnown}
-use Rattle.pdl_law_follows.specs.law.MadeNetlist.{IsMadeWhole}
-use Rattle.pdl_law_follows.proofs.law.OutputNames.{Apart}
-use Rattle.pdl_law_follows.proofs.law.WholeRuns as runs
-use Rattle.pdl_law_follows.proofs.law.WholeRuns.{stands_next}
-use Rattle.pdl_law_follows.proofs.law.ShowsSource.{IsStandingFor, lawful, apart, known_source, stands_source}
+use Rattle.pdl_law_follows.specs.StandingStates.{IsLawful, IsKnown}
+use Rattle.pdl_law_follows.specs.MadeNetlist.{IsMadeWhole}
+use Rattle.pdl_law_follows.proofs.OutputNames.{Apart}
+use Rattle.pdl_law_follows.proofs.WholeRuns as runs
+use Rattle.pdl_law_follows.proofs.WholeRuns.{stands_next}
+use Rattle.pdl_law_follows.proofs.ShowsSource.{IsStandingFor, lawful, apart, known_source, stands_source}
 use Rattle.pdl_law_follows.specs.Follows.{IsMade}
 use Rattle.pdl_law_follows.specs.Memories.{replies_in}
 use Rattle.pdl_law_follows.specs.Refined.{machine_after}

@@ -1,3 +1,7 @@
+pub mod Counts
+pub mod Over
+pub mod LimitLines
+pub mod ForkOrder
 pub mod Known
 pub mod OrderedRules
 pub use Rattle.pdl_spec.specs.Plan

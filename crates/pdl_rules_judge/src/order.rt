@@ -15,11 +15,11 @@ ghost use Rattle.pdl_spec.specs.WalkLines.{AreLines as AreSpecLines};
 ghost use Rattle.pdl_rules_judge.specs.Known.{AreFindings, IsKnown};
 ghost use Rattle.pdl_rules_judge.specs.OrderedRules.{Answers, fork_rules, advice_rules, after_names, after_widths, after_forks, after_locks};
 
+use crate::fork_scan::forks_broken;
+use crate::limits::check_limits;
 use pdl_kit::{NoMemory, Refusal, Rule};
 use pdl_locks::{LockFacts, LockLines, LockPlan, lock_path_rules, plan_locks};
 use pdl_paths::{Guards, Place, places};
-use pdl_rules_forks::forks_broken;
-use pdl_rules_limits::check_limits;
 use pdl_rules_names::check_names;
 use pdl_rules_stages::{SoughtPlace, first_stage};
 use pdl_rules_walk::{Both, broken_lines};

@@ -15,7 +15,7 @@ use Rattle.pdl_source_paths.specs.Source.{is_source}
 use Rattle.pdl_source_paths.proofs.Memories.{mems_length}
 use Rattle.pdl_source_paths.proofs.PathTests.{few_ok}
 use Rattle.pdl_semantics.specs.Stages.{onpath}
-use Rattle.pdl_theory_facts.specs.Scans.{write_reserves}
+use Rattle.pdl_theory_turns.specs.Scans.{write_reserves}
 use Rattle.pdl_seq.proofs.LookedReserves.{looked_reserves}
 
 no_params : (ps : List Param) → count_by is_memory (map Parameter ps) ≡ 0

@@ -2,9 +2,9 @@
 use Rattle.std.proofs.Common.{◌≡◌, refl, ap, ℕ, suc, ◌==◌, Bool, true, false, cond, if◌then◌else◌, List, [], ◌∷◌}
 use Rattle.pdl_semantics.specs.Flat.{Op, Bind, CombRead, DelayedRead, Write, ReserveRead, ReserveWrite, Block, Release, Call, SpecCall, Verify, SpecCheck, SpecBarrier, AdviceBind, AdviceRead, AdviceWrite, Stmt, all_hold}
 use Rattle.pdl_semantics.specs.Stages.{onpath, is_write_reserve}
-use Rattle.pdl_theory_derived.specs.Alone.{answered_op}
-use Rattle.pdl_theory_facts.specs.Scans.{write_reserves}
-use Rattle.pdl_theory_facts.specs.Facts.{looked_all}
+use Rattle.pdl_theory_turns.specs.Alone.{answered_op}
+use Rattle.pdl_theory_turns.specs.Scans.{write_reserves}
+use Rattle.pdl_theory_turns.specs.Facts.{looked_all}
 
 -- as often as where it doesn't
 pub looked_reserves : (path : List ℕ) (m : ℕ) (xs : List Stmt) → write_reserves m (onpath path (looked_all xs)) ≡ write_reserves m (onpath path xs)

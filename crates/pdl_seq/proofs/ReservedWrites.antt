@@ -3,10 +3,10 @@ use Rattle.std.proofs.Common.{◌≡◌, refl, sym, ap, ◌∙◌, subst, ℕ, �
 use Rattle.pdl_semantics.specs.Flat.{Op, Bind, CombRead, DelayedRead, Write, ReserveRead, ReserveWrite, Block, Release, Call, SpecCall, Verify, SpecCheck, SpecBarrier, AdviceBind, AdviceRead, AdviceWrite, Stmt, Commit, of_mem, all_hold}
 use Rattle.pdl_semantics.specs.Sequential.{Run, run_after, run_all}
 use Rattle.pdl_semantics.specs.Stages.{is_write_reserve}
-use Rattle.pdl_theory_derived.specs.Alone.{is_among, drop_var}
-use Rattle.pdl_theory_derived.proofs.Writes.{and_left, and_right, of_mem_append}
-use Rattle.pdl_theory_facts.specs.Scans.{Phase, after_write, after_reserve, after_release, next_phase, may_write, phase_ok, phases_ok, write_reserves}
-use Rattle.pdl_theory_facts.proofs.Apart.{oldest_length}
+use Rattle.pdl_theory_turns.specs.Alone.{is_among, drop_var}
+use Rattle.pdl_theory_turns.proofs.Writes.{and_left, and_right, of_mem_append}
+use Rattle.pdl_theory_turns.specs.Scans.{Phase, after_write, after_reserve, after_release, next_phase, may_write, phase_ok, phases_ok, write_reserves}
+use Rattle.pdl_theory_turns.proofs.Apart.{oldest_length}
 use Rattle.pdl_theory_turns.proofs.Surroundings.{taken_none}
 
 -- how many writes of the memory there were

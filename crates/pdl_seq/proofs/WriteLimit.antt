@@ -4,8 +4,8 @@ use Rattle.std.proofs.lemmas.List.{length-map}
 use Rattle.pdl_semantics.specs.Flat.{Op, Bind, CombRead, DelayedRead, Write, ReserveRead, ReserveWrite, Block, Release, Call, SpecCall, Verify, SpecCheck, SpecBarrier, AdviceBind, AdviceRead, AdviceWrite, Stmt, Arrays, Commit, of_mem, all_hold, start_env}
 use Rattle.pdl_semantics.specs.Stages.{onpath}
 use Rattle.pdl_semantics.specs.Sequential.{Run, run_after, run_all, thread}
-use Rattle.pdl_theory_facts.specs.Scans.{Fresh}
-use Rattle.pdl_theory_facts.specs.Facts.{looked_all}
+use Rattle.pdl_theory_turns.specs.Scans.{Fresh}
+use Rattle.pdl_theory_turns.specs.Facts.{looked_all}
 use Rattle.pdl_theory_turns.proofs.Paths.{run_path}
 use Rattle.pdl_theory_turns.proofs.Looks.{run_looked}
 use Rattle.pdl_form.specs.Form.{Form}

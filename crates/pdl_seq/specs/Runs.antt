@@ -3,9 +3,9 @@ use Rattle.std.specs.Prelude.{◌≡◌, ℕ, suc, ◌-◌, ◌<◌, ◌≤◌, 
 use Rattle.pdl_semantics.specs.Flat.{Arrays, Commit, Pipe, arrays_of}
 use Rattle.pdl_semantics.specs.Sequential.{threads, after_turns}
 use Rattle.pdl_semantics.specs.Stages.{onpath}
-use Rattle.pdl_theory_facts.specs.Scans.{write_reserves}
+use Rattle.pdl_theory_turns.specs.Scans.{write_reserves}
 use Rattle.pdl_semantics.specs.Lines.{Column, column_at, put_line}
-use Rattle.pdl_theory_facts.specs.Facts.{Sound}
+use Rattle.pdl_theory_turns.specs.Facts.{Sound}
 use Rattle.pdl_form.specs.Form.{Form}
 use Rattle.pdl_form.specs.declared.flat.FlatPipe as r_pipe
 use Rattle.pdl_form.specs.FormView.{form}

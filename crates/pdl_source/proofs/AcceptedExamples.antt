@@ -8,7 +8,7 @@ use Rattle.pdl_semantics.proofs.Texts.{constant, variable, slice, separator, bin
 use Rattle.pdl_semantics.proofs.Pipes.{shared_guard, copy_guessed, count_slow, two_branches, guess_learnt, guess_kept}
 use Rattle.pdl_rules.specs.Refusal.{first_broken, limits, after_limits}
 use Rattle.pdl_rules.proofs.Unbroken.{keeps_unbroken}
-use Rattle.pdl_theory_facts.specs.SoundChecks.{passes_tests}
+use Rattle.pdl_theory_turns.specs.SoundChecks.{passes_tests}
 use Rattle.pdl_theory.proofs.SoundExamples.{passed_by}
 use Rattle.pdl_theory.proofs.StatedTheorems.{whole_refines}
 use Rattle.pdl_source_paths.specs.Source.{is_source, is_named}

@@ -7,7 +7,7 @@ use Rattle.pdl_semantics.specs.Flatten.{flat}
 use Rattle.pdl_semantics.specs.Cycle.{first, state_after, turns, ended_in}
 use Rattle.pdl_semantics.specs.Promises.{Refines, Advances, KeepsPace}
 use Rattle.pdl_semantics.specs.Sound.{is_sound}
-use Rattle.pdl_theory_facts.specs.Facts.{Sound}
+use Rattle.pdl_theory_turns.specs.Facts.{Sound}
 use Rattle.pdl_rules.specs.Refusal.{KeepsRules}
 use Rattle.pdl_syntax_grammar.specs.Text.{IsText}
 use Rattle.pdl_theory.proofs.StatedTheorems.{whole_refines, whole_advances, whole_paces}

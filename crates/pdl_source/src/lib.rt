@@ -15,9 +15,9 @@ ghost use Rattle.pdl_semantics.specs.Cycle.{first, state_after, turns, ended_in}
 ghost use Rattle.pdl_semantics.specs.Sound.{is_sound};
 ghost use Rattle.pdl_syntax_grammar.specs.Text.{IsText};
 ghost use Rattle.pdl_rules.specs.Refusal.{KeepsRules};
-ghost use Rattle.pdl_theory_derived.specs.Derived;
-ghost use Rattle.pdl_theory_derived.specs.Simulation.{SameTurns, hints_of};
-ghost use Rattle.pdl_theory_facts.specs.Facts.{Sound};
+ghost use Rattle.pdl_theory_turns.specs.Derived;
+ghost use Rattle.pdl_theory_turns.specs.Simulation.{SameTurns, hints_of};
+ghost use Rattle.pdl_theory_turns.specs.Facts.{Sound};
 ghost use Rattle.pdl_theory_states.specs.Strict.{Strict};
 ghost use Rattle.pdl_source_paths.specs.Source.{is_source, is_named};
 

@@ -8,8 +8,8 @@ ghost use Rattle.pdl_semantics.specs.Promises.{Refines, Advances, KeepsPace, Dif
 ghost use Rattle.pdl_semantics.specs.UpdateFree.{UpdatesAreIdle, without_update};
 ghost use Rattle.pdl_semantics.specs.Cycle.{first, turns};
 ghost use Rattle.pdl_rules.specs.Refusal.{KeepsRules, is_one_stage};
-ghost use Rattle.pdl_theory_derived.specs.Derived;
-ghost use Rattle.pdl_theory_derived.specs.Simulation.{SameTurns, hints_of};
+ghost use Rattle.pdl_theory_turns.specs.Derived;
+ghost use Rattle.pdl_theory_turns.specs.Simulation.{SameTurns, hints_of};
 ghost use Rattle.pdl_source_paths.specs.Source.{is_source, is_named};
 
 /// All accepted pipes, with guards, any locks, guesses, delayed reads and forks: each run commits what the sequential run writes, the oldest thread moves, enough threads end, and the machine that the proofs use, whose threads are given what they guess, has the same ports and waits. What advisory memories hold changes no write, nor do updates: the source without them breaks no rule, and writes the same, only later.

@@ -13,8 +13,8 @@ use Rattle.pdl_rules.specs.Calls.{is_call}
 use Rattle.pdl_rules.specs.Speculation.{is_verify, is_verify_of}
 use Rattle.pdl_rules.proofs.SingleWrites.{any_weaker, any_front, any_last}
 use Rattle.pdl_rules.proofs.KnownVariables.{any_split}
-use Rattle.pdl_theory_derived.specs.Alone.{answered_op}
-use Rattle.pdl_theory_facts.specs.GuessScans.{Making, Unmade, Guessed, Made, next_making, making_all, is_unmade, is_guessed, is_made, making_ok, makings_ok, stands_at, stands_before}
+use Rattle.pdl_theory_turns.specs.Alone.{answered_op}
+use Rattle.pdl_theory_turns.specs.GuessScans.{Making, Unmade, Guessed, Made, next_making, making_all, is_unmade, is_guessed, is_made, making_ok, makings_ok, stands_at, stands_before}
 use Rattle.pdl_source_paths.proofs.PathStatements
 use Rattle.pdl_source_paths.proofs.PathStatements.{ops_of, seen_ops}
 use Rattle.pdl_word.proofs.Bytes.{bytes_refl}

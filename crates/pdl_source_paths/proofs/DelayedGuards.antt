@@ -10,10 +10,10 @@ use Rattle.pdl_semantics.specs.Stages.{onpath, in_stage, stage_at, goes_to}
 use Rattle.pdl_rules.specs.Places.{places}
 use Rattle.pdl_rules.specs.Names.{OfVariable, defines_use}
 use Rattle.pdl_rules.specs.Refusal.{KeepsRules}
-use Rattle.pdl_theory_derived.specs.Alone.{before, answered_op}
-use Rattle.pdl_theory_facts.specs.Scans.{none_of, binds_var}
-use Rattle.pdl_theory_facts.specs.Graphs.{stage_or, next_of}
-use Rattle.pdl_theory_facts.specs.Facts.{is_fetch_of, DifferIn, visits_stage}
+use Rattle.pdl_theory_turns.specs.Alone.{before, answered_op}
+use Rattle.pdl_theory_turns.specs.Scans.{none_of, binds_var}
+use Rattle.pdl_theory_turns.specs.Graphs.{stage_or, next_of}
+use Rattle.pdl_theory_turns.specs.Facts.{is_fetch_of, DifferIn, visits_stage}
 use Rattle.pdl_source_stages.specs.StageFacts.{StageFacts}
 use Rattle.pdl_source_stages.proofs.Facts.{stage_facts}
 use Rattle.pdl_source_stages.proofs.Sites.{Site, sites_of}

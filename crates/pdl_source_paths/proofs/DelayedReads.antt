@@ -14,8 +14,8 @@ use Rattle.pdl_rules.specs.Names.{OfVariable, defines_use, is_delayed, is_too_ea
 use Rattle.pdl_rules.specs.Stages.{stage_in, stage_after}
 use Rattle.pdl_rules.specs.Forks
 use Rattle.pdl_rules.specs.Refusal.{KeepsRules}
-use Rattle.pdl_theory_facts.specs.Scans.{binds_var, is_dead}
-use Rattle.pdl_theory_facts.specs.Facts.{asks_for, mentions_var, silent_on, unseen_op, is_unseen, fetches_no, none_like, alone_op, fetch_apart}
+use Rattle.pdl_theory_turns.specs.Scans.{binds_var, is_dead}
+use Rattle.pdl_theory_turns.specs.Facts.{asks_for, mentions_var, silent_on, unseen_op, is_unseen, fetches_no, none_like, alone_op, fetch_apart}
 use Rattle.pdl_source_stages.proofs.Sites.{Site, sites_of, place_of, owns, All, stmts_are}
 use Rattle.pdl_source_stages.proofs.Walks.{names, names_append}
 use Rattle.pdl_source_stages.proofs.SiteFacts.{op_of, rows_of, own_is, from_op, row_at, read_none, bind_none, write_none}

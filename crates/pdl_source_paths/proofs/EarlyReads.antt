@@ -19,7 +19,7 @@ use Rattle.pdl_rules.specs.Locks.{is_locked}
 use Rattle.pdl_rules.specs.Forks
 use Rattle.pdl_rules.specs.Stages.{stage_in, stage_from, stage_after, first_stage, branches_of, are_outer, releases_memory, next_on, bound_late}
 use Rattle.pdl_rules.specs.Refusal.{KeepsRules}
-use Rattle.pdl_theory_facts.specs.Scans.{none_of, is_dead}
+use Rattle.pdl_theory_turns.specs.Scans.{none_of, is_dead}
 use Rattle.pdl_source_stages.proofs.Sites.{Site, sites_of, front_of, place_of, All, stmts_are}
 use Rattle.pdl_source_stages.proofs.Walks.{cut, cut_append, cut_in, at_front}
 use Rattle.pdl_source_stages.proofs.Shapes.{is_whole, is_forked, is_late, begins_stage}

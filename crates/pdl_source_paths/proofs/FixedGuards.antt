@@ -3,9 +3,9 @@ use Rattle.std.proofs.Common.{◌≡◌, refl, sym, ap, ap₂, ◌∙◌, ℕ, s
 use Rattle.std.proofs.lemmas.Bool.{and_parts, and_from, or_parts, eqb-true, not-true}
 use Rattle.pdl_semantics.specs.Flat.{Guard, Stmt, Op, list_all}
 use Rattle.pdl_semantics.specs.Stages.{in_stage}
-use Rattle.pdl_theory_derived.specs.Alone.{before, answered_op}
-use Rattle.pdl_theory_facts.specs.Scans.{none_of, binds_var, free_of, is_dead, keeps_guards, is_fixed}
-use Rattle.pdl_theory_facts.specs.Facts.{binds_guard}
+use Rattle.pdl_theory_turns.specs.Alone.{before, answered_op}
+use Rattle.pdl_theory_turns.specs.Scans.{none_of, binds_var, free_of, is_dead, keeps_guards, is_fixed}
+use Rattle.pdl_theory_turns.specs.Facts.{binds_guard}
 use Rattle.pdl_theory_turns.proofs.StageFacts.{binds_looked}
 use Rattle.pdl_theory_turns.proofs.OfStage.{fixed_stage}
 use Rattle.pdl_semantics.specs.Sound.{stages_from}

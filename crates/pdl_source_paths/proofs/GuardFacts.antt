@@ -10,8 +10,8 @@ use Rattle.pdl_rules.specs.Places.{Statement, Branch, places}
 use Rattle.pdl_rules.specs.Limits.{is_separator}
 use Rattle.pdl_rules.specs.Names.{OfVariable, defines_use, is_delayed}
 use Rattle.pdl_rules.specs.Refusal.{KeepsRules}
-use Rattle.pdl_theory_facts.specs.Scans.{none_of, binds_var, free_of, is_dead, is_fixed}
-use Rattle.pdl_theory_facts.specs.Facts.{binds_guard, defined_by, late_for}
+use Rattle.pdl_theory_turns.specs.Scans.{none_of, binds_var, free_of, is_dead, is_fixed}
+use Rattle.pdl_theory_turns.specs.Facts.{binds_guard, defined_by, late_for}
 use Rattle.pdl_source_stages.proofs.Sites.{Site, sites_of, own, owns, All, stmts_are}
 use Rattle.pdl_source_stages.proofs.SiteStages.{all_both, all_map}
 use Rattle.pdl_source_stages.proofs.SiteFacts.{each_stmt, AtSite, op_of, rows_of, own_is, from_op, row_at, read_none, bind_none, write_none}

@@ -3,7 +3,7 @@ use Rattle.std.proofs.Common.{◌≡◌, refl, sym, ap, ◌∙◌, ℕ, zero, su
 use Rattle.std.proofs.lemmas.Bool.{false≢true, and_from, or_parts, eqb-true, eqb-false}
 use Rattle.std.proofs.lemmas.List.{get_or-set_same, get_or-set_other, length-set}
 use Rattle.pdl_semantics.specs.Flat.{Guard, all_hold, takes_branch}
-use Rattle.pdl_theory_facts.specs.Scans.{against, is_dead}
+use Rattle.pdl_theory_turns.specs.Scans.{against, is_dead}
 
 -- something that holds of each guard
 abbrev pub AllGuards : (Guard → Type 0) → List Guard → Type 0

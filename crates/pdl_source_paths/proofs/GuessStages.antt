@@ -15,8 +15,8 @@ use Rattle.pdl_rules.specs.Speculation.{is_verify, is_guess_of, guess_stages}
 use Rattle.pdl_rules.specs.Speculation
 use Rattle.pdl_rules.specs.Refusal.{KeepsRules}
 use Rattle.pdl_rules.proofs.SingleWrites.{any_weaker, any_last}
-use Rattle.pdl_theory_derived.specs.Alone.{answered_op}
-use Rattle.pdl_theory_facts.specs.GuessScans.{stands_at, stands_before, guess_stage, check_apart, checks_apart}
+use Rattle.pdl_theory_turns.specs.Alone.{answered_op}
+use Rattle.pdl_theory_turns.specs.GuessScans.{stands_at, stands_before, guess_stage, check_apart, checks_apart}
 use Rattle.pdl_source_stages.proofs.SiteFacts.{either_read, either_bind, either_write}
 use Rattle.pdl_source_stages.proofs.Sites.{Site, sites_of, front_of, place_of, All}
 use Rattle.pdl_source_stages.proofs.StatementStages.{Staged}

@@ -19,9 +19,9 @@ use Rattle.pdl_rules.specs.Speculation
 use Rattle.pdl_rules.specs.Refusal.{KeepsRules}
 use Rattle.pdl_rules.proofs.SingleWrites.{any_weaker, counted, count_push, count_cons, count_none, weight}
 use Rattle.pdl_rules.proofs.KnownVariables.{any_split}
-use Rattle.pdl_theory_facts.specs.Scans
-use Rattle.pdl_theory_facts.specs.GuessScans.{stands_at, stands_before}
-use Rattle.pdl_theory_facts.proofs.Texts.{no_verify}
+use Rattle.pdl_theory_turns.specs.Scans
+use Rattle.pdl_theory_turns.specs.GuessScans.{stands_at, stands_before}
+use Rattle.pdl_theory_turns.proofs.Texts.{no_verify}
 use Rattle.pdl_source_stages.proofs.Sites.{Site, sites_of, front_of, place_of, All, stmts_are}
 use Rattle.pdl_source_stages.proofs.StatementStages.{Staged}
 use Rattle.pdl_semantics.specs.Flatten.{flat}

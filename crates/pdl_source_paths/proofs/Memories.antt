@@ -18,7 +18,7 @@ use Rattle.pdl_rules.specs.Refusal.{KeepsRules}
 use Rattle.pdl_rules.specs.Typed.{is_memory, AreDistinct}
 use Rattle.pdl_rules.proofs.SingleWrites.{any_front, any_last}
 use Rattle.pdl_rules.proofs.KnownVariables.{takes_name}
-use Rattle.pdl_theory_facts.specs.Scans.{is_plain, none_of}
+use Rattle.pdl_theory_turns.specs.Scans.{is_plain, none_of}
 use Rattle.pdl_word.proofs.Bytes.{bytes_same, bytes_refl}
 use Rattle.pdl_source_stages.proofs.Trunks.{first_index}
 use Rattle.pdl_rules.proofs.EachPlace.{closing}

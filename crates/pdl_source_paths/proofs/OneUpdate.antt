@@ -12,8 +12,8 @@ use Rattle.pdl_rules.specs.Parts.{is_some_and}
 use Rattle.pdl_rules.specs.Speculation.{is_verify, guess_stages}
 use Rattle.pdl_rules.specs.Speculation
 use Rattle.pdl_rules.specs.Refusal.{KeepsRules}
-use Rattle.pdl_theory_derived.specs.Alone.{answered_op}
-use Rattle.pdl_theory_facts.specs.GuessScans.{is_update, once}
+use Rattle.pdl_theory_turns.specs.Alone.{answered_op}
+use Rattle.pdl_theory_turns.specs.GuessScans.{is_update, once}
 use Rattle.pdl_source_stages.proofs.SiteFacts.{either_read, either_bind, either_write}
 use Rattle.pdl_source_stages.proofs.Sites.{Site, sites_of, front_of, place_of, All}
 use Rattle.pdl_source_stages.proofs.StatementStages.{Staged}

@@ -10,7 +10,7 @@ use Rattle.pdl_rules.specs.Places.{Place, Statement, Branch}
 use Rattle.pdl_rules.specs.Parts.{location_of}
 use Rattle.pdl_rules.specs.Limits.{is_separator}
 use Rattle.pdl_rules.specs.Locks.{is_locked, most_reservations}
-use Rattle.pdl_theory_facts.proofs.Apart.{total}
+use Rattle.pdl_theory_turns.proofs.Apart.{total}
 use Rattle.pdl_rules.specs.Stages.{reserves_memory}
 use Rattle.pdl_rules.specs.Speculation.{releases_unsure}
 use Rattle.pdl_rules.specs.Speculation
@@ -18,9 +18,9 @@ use Rattle.pdl_rules.specs.Typed.{is_memory}
 use Rattle.pdl_rules.proofs.EachPlace.{Each, closing}
 use Rattle.pdl_rules.proofs.SingleWrites.{KeepsLocks, AreBacked, backed_next}
 use Rattle.pdl_rules.proofs.KnownVariables.{any_split}
-use Rattle.pdl_theory_facts.specs.Scans.{is_plain, Scan, reads_ok, Phase, phases_ok, phase_all, is_over}
-use Rattle.pdl_theory_facts.specs.GuessScans.{Making, makings_ok, making_all, stands_before, all_sure}
-use Rattle.pdl_theory_facts.specs.Checks.{in_text_order}
+use Rattle.pdl_theory_turns.specs.Scans.{is_plain, Scan, reads_ok, Phase, phases_ok, phase_all, is_over}
+use Rattle.pdl_theory_turns.specs.GuessScans.{Making, makings_ok, making_all, stands_before, all_sure}
+use Rattle.pdl_theory_turns.specs.Checks.{in_text_order}
 use Rattle.pdl_source_stages.proofs.Sites.{Site, place_of, All}
 use Rattle.pdl_source_paths.proofs.PathStatements.{ops_of, ops, seen_ops, seen}
 use Rattle.pdl_source_paths.proofs.Variables.{IsNamed}

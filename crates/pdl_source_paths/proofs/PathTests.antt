@@ -13,7 +13,7 @@ use Rattle.pdl_rules.specs.Places.{Place, Parameter, Memory, Statement, End, Sta
 use Rattle.pdl_rules.specs.Typed.{is_memory}
 use Rattle.pdl_rules.specs.Locks
 use Rattle.pdl_rules.specs.Locks.{is_locked, lock_size, most_reservations, reserves_location}
-use Rattle.pdl_theory_facts.proofs.Apart.{total, total_all}
+use Rattle.pdl_theory_turns.proofs.Apart.{total, total_all}
 use Rattle.pdl_source_paths.proofs.WritesKept.{stands_first}
 use Rattle.pdl_source_paths.proofs.Quiet.{touches, quiet_seen, untouched}
 use Rattle.pdl_semantics.specs.Locks.{has_room}
@@ -24,13 +24,13 @@ use Rattle.pdl_rules.specs.Speculation
 use Rattle.pdl_rules.specs.Refusal.{KeepsRules}
 use Rattle.pdl_rules.proofs.EachPlace.{Each, closing}
 use Rattle.pdl_rules.proofs.SingleWrites.{KeepsLocks, AreBacked, none_backed, backed_next, reserves_to_write, count_none}
-use Rattle.pdl_theory_facts.specs.Scans.{is_plain, none_of, all_at, reads_ok, no_scan, phases_ok, phase_all, Fresh, is_over, write_reserves}
-use Rattle.pdl_theory_derived.specs.Alone
-use Rattle.pdl_theory_facts.specs.GuessScans
-use Rattle.pdl_theory_facts.specs.GuessScans.{Unmade, makings_ok, making_all, is_made, checks_apart, is_update, once, all_sure}
-use Rattle.pdl_theory_facts.specs.Checks.{knows_memory, mem_passes, path_passes, lock_passes, locks_pass}
-use Rattle.pdl_theory_facts.specs.Facts.{looked_all, at_once}
-use Rattle.pdl_theory_facts.proofs.Passes.{Parts}
+use Rattle.pdl_theory_turns.specs.Scans.{is_plain, none_of, all_at, reads_ok, no_scan, phases_ok, phase_all, Fresh, is_over, write_reserves}
+use Rattle.pdl_theory_turns.specs.Alone
+use Rattle.pdl_theory_turns.specs.GuessScans
+use Rattle.pdl_theory_turns.specs.GuessScans.{Unmade, makings_ok, making_all, is_made, checks_apart, is_update, once, all_sure}
+use Rattle.pdl_theory_turns.specs.Checks.{knows_memory, mem_passes, path_passes, lock_passes, locks_pass}
+use Rattle.pdl_theory_turns.specs.Facts.{looked_all, at_once}
+use Rattle.pdl_theory_turns.proofs.Passes.{Parts}
 use Rattle.pdl_source_stages.proofs.Sites.{Site, sites_of, front_of, place_of, owns, All, stmts_are}
 use Rattle.pdl_source_stages.proofs.StatementStages.{Staged, all_staged}
 use Rattle.pdl_source_stages.proofs.SiteStages.{all_both, all_map}

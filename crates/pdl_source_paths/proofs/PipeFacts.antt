@@ -9,12 +9,12 @@ use Rattle.pdl_semantics.specs.Stages.{in_stage, commit_stage}
 use Rattle.pdl_rules.specs.Places.{places}
 use Rattle.pdl_rules.specs.Names.{OfVariable, defines_use}
 use Rattle.pdl_rules.specs.Refusal.{KeepsRules}
-use Rattle.pdl_theory_derived.specs.Alone.{answered_op}
-use Rattle.pdl_theory_facts.specs.Scans.{is_dead, is_fixed}
-use Rattle.pdl_theory_facts.specs.Graphs.{Graph, next_of}
-use Rattle.pdl_theory_facts.proofs.Nested.{within_all}
-use Rattle.pdl_theory_facts.specs.Facts.{binds_guard, FetchIf, AllFetches, looked_all, at_once, Sound}
-use Rattle.pdl_theory_facts.proofs.Passes
+use Rattle.pdl_theory_turns.specs.Alone.{answered_op}
+use Rattle.pdl_theory_turns.specs.Scans.{is_dead, is_fixed}
+use Rattle.pdl_theory_turns.specs.Graphs.{Graph, next_of}
+use Rattle.pdl_theory_turns.proofs.Nested.{within_all}
+use Rattle.pdl_theory_turns.specs.Facts.{binds_guard, FetchIf, AllFetches, looked_all, at_once, Sound}
+use Rattle.pdl_theory_turns.proofs.Passes
 use Rattle.pdl_theory_turns.proofs.StrayPaths.{fixed_looked}
 use Rattle.pdl_source_stages.specs.StageFacts.{FoundIf, AllFound, StageFacts}
 use Rattle.pdl_source_stages.proofs.Facts.{stage_facts}

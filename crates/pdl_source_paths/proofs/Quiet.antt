@@ -6,8 +6,8 @@ use Rattle.pdl_semantics.specs.Flat
 use Rattle.pdl_semantics.specs.Flatten.{Var, var_of, mem_of, flat_expr, is_advisory_mem, is_advised, write_op}
 use Rattle.std.proofs.Common.{◌≡◌, refl, sym, ap, ◌∙◌, subst, ℕ, Bool, true, false, ◌||◌, not, List, [], ◌∷◌, if◌then◌else◌, ◌==◌, bytes_eq, Some}
 use Rattle.pdl_word.proofs.Bytes.{bytes_same}
-use Rattle.pdl_theory_derived.specs.Alone.{answered_op}
-use Rattle.pdl_theory_facts.specs.Scans.{Fresh, after_write, after_reserve, after_release, next_phase, phase_ok, phases_ok, phase_all}
+use Rattle.pdl_theory_turns.specs.Alone.{answered_op}
+use Rattle.pdl_theory_turns.specs.Scans.{Fresh, after_write, after_reserve, after_release, next_phase, phase_ok, phases_ok, phase_all}
 use Rattle.pdl_rules.specs.Places.{Branch, Statement}
 use Rattle.pdl_rules.specs.Parts.{location_of}
 use Rattle.pdl_rules.specs.Typed.{is_memory}

@@ -17,9 +17,9 @@ use Rattle.pdl_rules.specs.Stages.{reserves_memory}
 use Rattle.pdl_rules.specs.Typed.{is_named, is_memory}
 use Rattle.pdl_rules.proofs.SingleWrites.{KeepsLocks, any_weaker, any_front, any_last, held_alike, reserves_to_write, reserves_some, reserves_alike}
 use Rattle.pdl_rules.proofs.KnownVariables.{any_split}
-use Rattle.pdl_theory_derived.specs.Alone
-use Rattle.pdl_theory_derived.specs.Alone.{answered_op}
-use Rattle.pdl_theory_facts.specs.Scans.{is_plain, is_address, has_location, Scan, scan_after, op_ok, reads_ok}
+use Rattle.pdl_theory_turns.specs.Alone
+use Rattle.pdl_theory_turns.specs.Alone.{answered_op}
+use Rattle.pdl_theory_turns.specs.Scans.{is_plain, is_address, has_location, Scan, scan_after, op_ok, reads_ok}
 use Rattle.pdl_source_paths.proofs.Numbers.{var_low, var_same, var_stays, mem_same}
 use Rattle.pdl_source_paths.proofs.PathStatements
 use Rattle.pdl_source_paths.proofs.PathStatements.{ops_of, seen_ops}

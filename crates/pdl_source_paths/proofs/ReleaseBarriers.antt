@@ -13,9 +13,9 @@ use Rattle.pdl_rules.specs.Locks.{Hold, Nothing, Reserved, Blocked, Released, ho
 use Rattle.pdl_rules.specs.Speculation.{releases_unsure}
 use Rattle.pdl_rules.specs.Speculation
 use Rattle.pdl_rules.proofs.SingleWrites.{KeepsLocks}
-use Rattle.pdl_theory_derived.specs.Alone.{answered_op}
-use Rattle.pdl_theory_facts.specs.Scans.{has_location, scan_after, Scan}
-use Rattle.pdl_theory_facts.specs.GuessScans.{stands_before, is_barrier, is_sure, all_sure}
+use Rattle.pdl_theory_turns.specs.Alone.{answered_op}
+use Rattle.pdl_theory_turns.specs.Scans.{has_location, scan_after, Scan}
+use Rattle.pdl_theory_turns.specs.GuessScans.{stands_before, is_barrier, is_sure, all_sure}
 use Rattle.pdl_source_paths.proofs.PathStatements
 use Rattle.pdl_source_paths.proofs.PathStatements.{ops_of, seen_ops}
 use Rattle.pdl_source_paths.proofs.Variables.{IsNamed}

@@ -16,8 +16,8 @@ use Rattle.pdl_rules.specs.Names.{Use, OfVariable, defines_use, name_at, is_dela
 use Rattle.pdl_rules.specs.Stages.{stage_in, branches_of}
 use Rattle.pdl_rules.specs.Refusal.{KeepsRules}
 use Rattle.pdl_rules.proofs.SingleWrites.{bytes_sym}
-use Rattle.pdl_theory_facts.specs.Scans.{binds_var, none_of}
-use Rattle.pdl_theory_facts.specs.Facts.{is_fetch_of, visits_stage}
+use Rattle.pdl_theory_turns.specs.Scans.{binds_var, none_of}
+use Rattle.pdl_theory_turns.specs.Facts.{is_fetch_of, visits_stage}
 use Rattle.pdl_source_stages.proofs.Sites.{Site, sites_of, front_of, place_of, All}
 use Rattle.pdl_source_stages.proofs.Walks.{names, names_by, names_append}
 use Rattle.pdl_source_stages.proofs.SiteStages.{all_both, all_map}

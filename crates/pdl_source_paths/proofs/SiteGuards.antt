@@ -13,7 +13,7 @@ use Rattle.pdl_rules.specs.Places.{Place, Parameter, Memory, Statement, Branch, 
 use Rattle.pdl_rules.specs.Limits.{is_separator}
 use Rattle.pdl_rules.specs.Names.{OfVariable, defines_use, is_delayed, is_given, is_parameter, is_undefined, is_too_early}
 use Rattle.pdl_rules.specs.Refusal.{KeepsRules}
-use Rattle.pdl_theory_facts.specs.Scans.{binds_var}
+use Rattle.pdl_theory_turns.specs.Scans.{binds_var}
 use Rattle.pdl_source_stages.proofs.Sites.{Site, sites_of, front_of, place_of, All}
 use Rattle.pdl_source_stages.proofs.Walks.{names, names_at, names_by, names_append, Choice, its_if, flat_guard, rule_branch, Chosen, AllChosen, Nested}
 use Rattle.pdl_source_stages.proofs.SiteStages.{all_both}

@@ -7,7 +7,7 @@ use Rattle.pdl_semantics.specs.Flat
 use Rattle.pdl_semantics.specs.Stages.{is_verify, verify_stage}
 use Rattle.pdl_rules.specs.Places.{Place}
 use Rattle.pdl_rules.specs.Stages.{stage_in, stage_of, first_stage, stages_that}
-use Rattle.pdl_theory_facts.specs.Scans.{none_of, all_at}
+use Rattle.pdl_theory_turns.specs.Scans.{none_of, all_at}
 use Rattle.pdl_source_stages.proofs.Sites.{Site, place_of, own, owns, All}
 use Rattle.pdl_source_stages.proofs.StatementStages.{Staged}
 use Rattle.pdl_source_paths.proofs.PathStatements.{ops, stmts_at, own_is}

@@ -10,9 +10,9 @@ use Rattle.pdl_rules.specs.Locks.{same_location, Hold, Blocked, after_place, hol
 use Rattle.pdl_rules.specs.Typed.{is_named}
 use Rattle.pdl_rules.proofs.FirstReserves.{first_stays}
 use Rattle.pdl_rules.proofs.SingleWrites.{any_weaker, any_front, reserves_to_write, reserves_mem, weight, count_push}
-use Rattle.pdl_theory_derived.specs.Alone.{is_nil, is_among, is_oldest, drop_var, but_last}
-use Rattle.pdl_theory_facts.specs.Scans.{Phase, may_read}
-use Rattle.pdl_theory_facts.proofs.Apart.{Apart, front_among, total}
+use Rattle.pdl_theory_turns.specs.Alone.{is_nil, is_among, is_oldest, drop_var, but_last}
+use Rattle.pdl_theory_turns.specs.Scans.{Phase, may_read}
+use Rattle.pdl_theory_turns.proofs.Apart.{Apart, front_among, total}
 use Rattle.pdl_source_paths.proofs.Numbers.{var_low, var_stays}
 use Rattle.pdl_source_paths.proofs.ReadsKept.{held_more}
 use Rattle.pdl_source_paths.proofs.Calls.{none_more}

@@ -8,10 +8,10 @@ use Rattle.pdl_source_stages.proofs.SiteFacts.{either_read, either_bind, either_
 use Rattle.pdl_semantics.specs.Stages.{is_reserve, is_release, is_verify, verify_stage}
 use Rattle.pdl_rules.specs.Parts.{location_of}
 use Rattle.pdl_rules.specs.Typed.{is_memory}
-use Rattle.pdl_theory_derived.specs.Alone.{answered_op}
-use Rattle.pdl_theory_facts.specs.Scans.{none_of, all_at}
-use Rattle.pdl_theory_facts.specs.Checks.{knows_memory, is_below}
-use Rattle.pdl_theory_facts.specs.Facts.{looked_all}
+use Rattle.pdl_theory_turns.specs.Alone.{answered_op}
+use Rattle.pdl_theory_turns.specs.Scans.{none_of, all_at}
+use Rattle.pdl_theory_turns.specs.Checks.{knows_memory, is_below}
+use Rattle.pdl_theory_turns.specs.Facts.{looked_all}
 use Rattle.pdl_source_stages.proofs.Sites.{Site, own, owns, All}
 use Rattle.pdl_source_paths.proofs.PathStatements.{ops_of, ops, stmts_at, own_is, seen_ops, seen, looked_append}
 use Rattle.pdl_source_paths.proofs.Numbers.{mem_low}

@@ -7,7 +7,7 @@ use Rattle.pdl_semantics.specs.Flatten.{Var, var_of, flat_expr, flat_exprs, mem_
 use Rattle.pdl_rules.specs.Places.{Statement, Branch}
 use Rattle.pdl_rules.specs.Parts.{some_part}
 use Rattle.pdl_rules.specs.Names.{Use, OfVariable, OfMemory, OfGuess, reads_some, some_use}
-use Rattle.pdl_theory_facts.specs.Facts.{uses_in, uses_any, mentions_var}
+use Rattle.pdl_theory_turns.specs.Facts.{uses_in, uses_any, mentions_var}
 use Rattle.pdl_source_stages.proofs.SiteFacts.{op_of, from_op, either_read, either_bind, either_write}
 
 -- a name with this number, whose use by an expression a test finds

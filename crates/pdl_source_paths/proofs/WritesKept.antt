@@ -15,9 +15,9 @@ use Rattle.pdl_rules.specs.Typed.{is_named, is_memory}
 use Rattle.pdl_rules.proofs.EachPlace.{Each, closing}
 use Rattle.pdl_rules.proofs.FirstReserves.{first_stays}
 use Rattle.pdl_rules.proofs.SingleWrites.{KeepsLocks, AreBacked, any_weaker, any_front, any_last, location_refl, location_sym, held_alike, writes_alike, reserves_alike, reserves_to_write, reserves_some, reserved_if_blocked, written_reserved, blocked_here, weight, count_push, count_cons, count_none, written_once}
-use Rattle.pdl_theory_derived.specs.Alone.{answered_op, is_nil, is_among, is_oldest, drop_var, but_last}
-use Rattle.pdl_theory_facts.specs.Scans.{Phase, Fresh, after_write, after_reserve, after_release, may_read, may_write, is_new, next_phase, phase_ok, phases_ok, phase_all, is_over}
-use Rattle.pdl_theory_facts.proofs.Apart.{Apart, apart_fresh, apart_reserve, apart_write, apart_release, oldest_once, front_among, total, oldest_length, drop_length}
+use Rattle.pdl_theory_turns.specs.Alone.{answered_op, is_nil, is_among, is_oldest, drop_var, but_last}
+use Rattle.pdl_theory_turns.specs.Scans.{Phase, Fresh, after_write, after_reserve, after_release, may_read, may_write, is_new, next_phase, phase_ok, phases_ok, phase_all, is_over}
+use Rattle.pdl_theory_turns.proofs.Apart.{Apart, apart_fresh, apart_reserve, apart_write, apart_release, oldest_once, front_among, total, oldest_length, drop_length}
 use Rattle.pdl_source_paths.proofs.Numbers.{var_same, var_stays, mem_is}
 use Rattle.pdl_source_paths.proofs.PathStatements
 use Rattle.pdl_source_paths.proofs.PathStatements.{ops_of, seen_ops}

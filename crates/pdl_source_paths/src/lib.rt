@@ -8,10 +8,10 @@ ghost use Rattle.pdl_semantics.specs.Tree.{Pipe};
 ghost use Rattle.pdl_semantics.specs.Flatten.{flat};
 ghost use Rattle.pdl_semantics.specs.Stages.{onpath, verify_stage};
 ghost use Rattle.pdl_rules.specs.Refusal.{KeepsRules};
-ghost use Rattle.pdl_theory_facts.specs.Scans.{no_scan};
-ghost use Rattle.pdl_theory_facts.specs.GuessScans.{Unmade, makings_ok, making_all, is_made, checks_apart, all_sure};
-ghost use Rattle.pdl_theory_facts.specs.Facts.{at_once, Sound};
-ghost use Rattle.pdl_theory_facts.specs.Accepted.{Accepted, along};
+ghost use Rattle.pdl_theory_turns.specs.Scans.{no_scan};
+ghost use Rattle.pdl_theory_turns.specs.GuessScans.{Unmade, makings_ok, making_all, is_made, checks_apart, all_sure};
+ghost use Rattle.pdl_theory_turns.specs.Facts.{at_once, Sound};
+ghost use Rattle.pdl_theory_turns.specs.Accepted.{Accepted, along};
 ghost use Rattle.pdl_source_paths.specs.Source.{is_source, is_named};
 
 /// The statements on each path: in the order of their stages, with locks, calls, guesses and releases as the rules have them, and each check in another stage than its guess.

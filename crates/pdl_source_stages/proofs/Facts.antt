@@ -6,7 +6,7 @@ use Rattle.pdl_semantics.specs.Flat
 use Rattle.pdl_semantics.specs.Flatten.{flat}
 use Rattle.pdl_semantics.specs.Stages.{in_stage, mem_at}
 use Rattle.pdl_rules.specs.Refusal.{KeepsRules}
-use Rattle.pdl_theory_facts.specs.Facts.{is_exact, Found}
+use Rattle.pdl_theory_turns.specs.Facts.{is_exact, Found}
 use Rattle.pdl_source_stages.specs.StageFacts.{StageFacts, FoundIf, AllFound}
 use Rattle.pdl_source_stages.proofs.SiteFacts.{each_in_stage}
 use Rattle.pdl_source_stages.proofs.Trunks

@@ -15,8 +15,8 @@ use Rattle.pdl_rules.specs.Parts.{is_some_and}
 use Rattle.pdl_rules.specs.Limits.{is_separator}
 use Rattle.pdl_rules.specs.Names.{OfVariable, defines_use, name_at, is_undefined, is_parameter, is_delayed, is_given, is_too_early}
 use Rattle.pdl_rules.specs.Refusal.{KeepsRules}
-use Rattle.pdl_theory_facts.specs.Scans.{none_of, binds_var}
-use Rattle.pdl_theory_facts.specs.Facts.{is_fetch_of, visits_stage}
+use Rattle.pdl_theory_turns.specs.Scans.{none_of, binds_var}
+use Rattle.pdl_theory_turns.specs.Facts.{is_fetch_of, visits_stage}
 use Rattle.pdl_source_stages.proofs.Sites.{Site, sites_of, front_of, place_of, All}
 use Rattle.pdl_source_stages.proofs.Walks.{cut, cut_append, names, names_at, names_by, names_append, told_past_all, at_front}
 use Rattle.pdl_source_stages.proofs.BodyShape.{body_forked, body_groups, body_size}

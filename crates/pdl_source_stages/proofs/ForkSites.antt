@@ -8,8 +8,8 @@ use Rattle.pdl_semantics.specs.Flat.{all_hold, takes_branch}
 use Rattle.pdl_semantics.specs.Flatten.{guard_of, with_guard, past, at_otherwise, under, side, separators}
 use Rattle.pdl_semantics.specs.Flatten
 use Rattle.pdl_semantics.specs.Stages.{stage_at}
-use Rattle.pdl_theory_facts.specs.Graphs.{goes_by, on_side}
-use Rattle.pdl_theory_facts.specs.Facts.{comes_by}
+use Rattle.pdl_theory_turns.specs.Graphs.{goes_by, on_side}
+use Rattle.pdl_theory_turns.specs.Facts.{comes_by}
 use Rattle.pdl_rules.specs.Places.{Place, Statement, Branch, with_inner, statements}
 use Rattle.pdl_source_stages.proofs.Sites.{Site, branch, sites_in, sites, place_of, All}
 use Rattle.pdl_source_stages.proofs.Walks.{guard_begun, past_begun, past_all_begun}

@@ -13,7 +13,7 @@ use Rattle.pdl_rules.specs.Parts.{is_some_and}
 use Rattle.pdl_rules.specs.Limits.{is_separator}
 use Rattle.pdl_rules.specs.Names.{Use, OfVariable, defines_use, name_at, is_taken_name, is_delayed, is_given}
 use Rattle.pdl_rules.specs.Refusal.{KeepsRules}
-use Rattle.pdl_theory_facts.specs.Scans.{none_of, binds_var}
+use Rattle.pdl_theory_turns.specs.Scans.{none_of, binds_var}
 use Rattle.pdl_source_stages.proofs.Sites.{branch, sites_of, front_of, All}
 use Rattle.pdl_source_stages.proofs.Walks.{holds_all, guard_begun, guard_stage, past_begun, past_all_begun, cut, cut_append, names, names_at, told}
 use Rattle.pdl_source_stages.proofs.SiteFacts.{op_of, from_op, write_none}

@@ -17,8 +17,8 @@ use Rattle.pdl_rules.specs.Stages.{reserves_memory, releases_memory, is_elsewher
 use Rattle.pdl_rules.specs.Speculation
 use Rattle.pdl_rules.specs.Forks.{breaks_fetch_order, is_delayed_memory}
 use Rattle.pdl_rules.specs.Refusal.{KeepsRules}
-use Rattle.pdl_theory_facts.specs.Scans.{none_of, all_at}
-use Rattle.pdl_theory_facts.specs.Facts.{is_exact}
+use Rattle.pdl_theory_turns.specs.Scans.{none_of, all_at}
+use Rattle.pdl_theory_turns.specs.Facts.{is_exact}
 use Rattle.pdl_source_stages.proofs.Sites.{Site, sites_of, place_of, All, front_of}
 use Rattle.pdl_source_stages.proofs.Walks.{cut, cut_append, cut_all, at_front}
 use Rattle.pdl_source_stages.proofs.BodyShape.{body_forked, stage_count}

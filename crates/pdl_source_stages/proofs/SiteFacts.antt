@@ -8,8 +8,8 @@ use Rattle.pdl_semantics.specs.Flatten
 use Rattle.pdl_rules.specs.Places.{Place, places}
 use Rattle.pdl_rules.specs.Forks.{is_trunk_only}
 use Rattle.pdl_rules.specs.Refusal.{KeepsRules}
-use Rattle.pdl_theory_facts.specs.Scans.{none_of, all_at}
-use Rattle.pdl_theory_facts.specs.Facts.{trunk_only}
+use Rattle.pdl_theory_turns.specs.Scans.{none_of, all_at}
+use Rattle.pdl_theory_turns.specs.Facts.{trunk_only}
 use Rattle.pdl_semantics.specs.Stages.{in_stage}
 use Rattle.pdl_source_stages.proofs.Sites.{Site, sites_of, front_of, place_of, own_of, own, owns, All, Stands, all_stand, stmts_are}
 use Rattle.pdl_source_stages.proofs.Walks.{At}

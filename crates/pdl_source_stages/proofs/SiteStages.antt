@@ -8,7 +8,7 @@ use Rattle.pdl_semantics.specs.Flat
 use Rattle.pdl_semantics.specs.Flatten.{with_guard, past, at_otherwise, under, guard_of, side, separators_in, separators, at_start, flat}
 use Rattle.pdl_semantics.specs.Flatten
 use Rattle.pdl_semantics.specs.Stages.{stage_at}
-use Rattle.pdl_theory_facts.specs.Graphs.{Home}
+use Rattle.pdl_theory_turns.specs.Graphs.{Home}
 use Rattle.pdl_rules.specs.Places.{Place, Statement, Branch, with_inner, statements}
 use Rattle.pdl_rules.specs.Forks.{holds_separator}
 use Rattle.pdl_source_stages.proofs.Sites.{Site, branch, sites_in, sites, sites_of, front_of, All, all_append}

@@ -5,8 +5,8 @@ use Rattle.std.proofs.lemmas.Bool.{cases_lt}
 use Rattle.pdl_semantics.specs.Flat
 use Rattle.pdl_semantics.specs.Flatten.{entry, side}
 use Rattle.pdl_semantics.specs.Stages.{last_stage, stage_at}
-use Rattle.pdl_theory_facts.specs.Graphs.{Home, Within, Trunk}
-use Rattle.pdl_theory_facts.proofs.Nested.{within_home}
+use Rattle.pdl_theory_turns.specs.Graphs.{Home, Within, Trunk}
+use Rattle.pdl_theory_turns.proofs.Nested.{within_home}
 use Rattle.pdl_source_stages.proofs.Shapes.{Shape, Last, Cut, Fork, Side, Straight, Runs, size, long, stage, merge_at, side_leads, leads_on, after, side_after}
 
 -- each fork has a branch stage

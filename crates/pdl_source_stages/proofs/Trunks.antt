@@ -11,11 +11,11 @@ use Rattle.pdl_semantics.specs.Stages.{stage_at, in_stage, onpath, is_inside, is
 use Rattle.pdl_semantics.specs.Cycle.{merges_by}
 use Rattle.pdl_rules.specs.Forks.{is_trunk_only}
 use Rattle.pdl_rules.specs.Refusal.{KeepsRules}
-use Rattle.pdl_theory_facts.specs.Alone.{before, answered_op}
-use Rattle.pdl_theory_facts.specs.Scans.{none_of}
-use Rattle.pdl_theory_facts.specs.Graphs.{Home, Trunk, next_of, stage_or, goes_by, on_side, Graph, Branches}
-use Rattle.pdl_theory_facts.specs.Facts.{trunk_only, visits_stage, comes_by}
-use Rattle.pdl_theory_facts.proofs.Nested.{not_empty}
+use Rattle.pdl_theory_turns.specs.Alone.{before, answered_op}
+use Rattle.pdl_theory_turns.specs.Scans.{none_of}
+use Rattle.pdl_theory_turns.specs.Graphs.{Home, Trunk, next_of, stage_or, goes_by, on_side, Graph, Branches}
+use Rattle.pdl_theory_turns.specs.Facts.{trunk_only, visits_stage, comes_by}
+use Rattle.pdl_theory_turns.proofs.Nested.{not_empty}
 use Rattle.pdl_source_stages.proofs.Sites.{Site, place_of}
 use Rattle.pdl_source_stages.proofs.Shapes.{merge_at}
 use Rattle.pdl_source_stages.proofs.Spots.{start, many, group_home, Forked, Known}

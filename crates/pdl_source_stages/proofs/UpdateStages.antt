@@ -11,7 +11,7 @@ use Rattle.pdl_rules.specs.Places.{Statement}
 use Rattle.pdl_rules.specs.Stages.{is_elsewhere, stage_in}
 use Rattle.pdl_rules.specs.Speculation
 use Rattle.pdl_rules.specs.Refusal.{KeepsRules}
-use Rattle.pdl_theory_facts.specs.Scans.{all_at}
+use Rattle.pdl_theory_turns.specs.Scans.{all_at}
 use Rattle.pdl_source_stages.proofs.Sites.{Site, sites_of, place_of}
 use Rattle.pdl_source_stages.proofs.SiteStages.{all_both}
 use Rattle.pdl_source_stages.proofs.SiteFacts.{Fine, all_fine, AtSite, each_stmt, all_at_each, op_of, from_op, read_none, bind_none, write_none}

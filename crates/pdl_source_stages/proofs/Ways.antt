@@ -6,8 +6,8 @@ use Rattle.pdl_semantics.specs.Flat
 use Rattle.pdl_semantics.specs.Flatten.{side}
 use Rattle.pdl_semantics.specs.Stages.{list_any, last_stage, stage_at, goes_to, is_inside, merges_fork, commit_stage, reserve_stage}
 use Rattle.pdl_semantics.specs.Cycle.{merges_by}
-use Rattle.pdl_theory_facts.specs.Graphs.{Home, Within, Trunk, next_of, stage_or, Below, Graph, Way, Branches, goes_by, on_side}
-use Rattle.pdl_theory_facts.proofs.Nested.{same_head, same_tail, within_home, trunk_within, inside_at, inside_of}
+use Rattle.pdl_theory_turns.specs.Graphs.{Home, Within, Trunk, next_of, stage_or, Below, Graph, Way, Branches, goes_by, on_side}
+use Rattle.pdl_theory_turns.proofs.Nested.{same_head, same_tail, within_home, trunk_within, inside_at, inside_of}
 use Rattle.pdl_source_stages.proofs.Shapes.{merge_at}
 use Rattle.pdl_source_stages.proofs.Spots.{start, many, enters, Forked, Spot, Final, Line, AtFork, Leaves, Around, AllAround, Known}
 

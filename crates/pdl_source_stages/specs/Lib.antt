@@ -1,3 +1,3 @@
 pub mod StageFacts
 pub mod Visits
-pub use Rattle.pdl_theory_facts.specs.Facts
+pub use Rattle.pdl_theory_turns.specs.Facts

@@ -5,10 +5,10 @@ use Rattle.pdl_semantics.specs.Stages.{is_inside, is_reserve, is_release, is_ver
 use Rattle.pdl_semantics.specs.Updates.{is_update, first_update}
 use Rattle.pdl_semantics.specs.Cycle.{merges_by}
 use Rattle.pdl_semantics.specs.Promises.{KeepsAdvice}
-use Rattle.pdl_theory_facts.specs.Alone.{before}
-use Rattle.pdl_theory_facts.specs.Scans.{none_of, all_at, binds_var}
-use Rattle.pdl_theory_facts.specs.Graphs.{Trunk, next_of, Graph, Home, Branches}
-use Rattle.pdl_theory_facts.specs.Facts.{trunk_only, visits_stage, Found}
+use Rattle.pdl_theory_turns.specs.Alone.{before}
+use Rattle.pdl_theory_turns.specs.Scans.{none_of, all_at, binds_var}
+use Rattle.pdl_theory_turns.specs.Graphs.{Trunk, next_of, Graph, Home, Branches}
+use Rattle.pdl_theory_turns.specs.Facts.{trunk_only, visits_stage, Found}
 use Rattle.pdl_semantics.specs.Sound.{stages_from, is_fetch}
 
 -- what is known of the delayed reads of stage s

@@ -8,7 +8,7 @@ use Rattle.pdl_semantics.specs.Flatten.{Var, var_of, mem_of, mem_width, width_of
 use Rattle.pdl_rules.specs.Parts.{some_part, some_expr_of, location_of}
 use Rattle.pdl_rules.specs.Names.{OfVariable, Use, reads_some}
 use Rattle.pdl_rules.specs.Typed.{is_named}
-use Rattle.pdl_theory_facts.specs.Facts.{uses_in, uses_any, mentions_var}
+use Rattle.pdl_theory_turns.specs.Facts.{uses_in, uses_any, mentions_var}
 use Rattle.pdl_source_stages.proofs.Sites.{Site, All}
 use Rattle.pdl_source_stages.proofs.SiteFacts.{either_read, either_bind, either_write}
 use Rattle.pdl_source_paths.proofs.Numbers.{var_low}

@@ -5,7 +5,7 @@ use Rattle.pdl_semantics.specs.Tree.{Expr, Variable, R, W, Stmt, CombRead, Bind,
 use Rattle.pdl_semantics.specs.Flat
 use Rattle.pdl_semantics.specs.Flat.{list_all}
 use Rattle.pdl_semantics.specs.Flatten.{Var, flat_exprs, is_advisory_mem, is_advised}
-use Rattle.pdl_theory_facts.specs.Facts.{uses_any}
+use Rattle.pdl_theory_turns.specs.Facts.{uses_any}
 use Rattle.pdl_source_stages.proofs.Sites.{Site, All}
 use Rattle.pdl_source_stages.proofs.SiteFacts.{either_read, either_bind, either_write}
 use Rattle.pdl_source_paths.proofs.PathStatements

@@ -12,8 +12,8 @@ use Rattle.pdl_rules.specs.Parts.{is_some_and, location_of}
 use Rattle.pdl_rules.specs.Names.{in_location, in_verify, is_too_early}
 use Rattle.pdl_rules.specs.Refusal.{KeepsRules}
 use Rattle.pdl_rules.specs.Typed.{is_named}
-use Rattle.pdl_theory_derived.specs.Alone.{answered_op}
-use Rattle.pdl_theory_facts.specs.Facts.{mentions_var, looked_all}
+use Rattle.pdl_theory_turns.specs.Alone.{answered_op}
+use Rattle.pdl_theory_turns.specs.Facts.{mentions_var, looked_all}
 use Rattle.pdl_theory_turns.proofs.Looks.{path_looked}
 use Rattle.pdl_source_stages.proofs.Sites.{Site, sites_of, place_of, All, stmts_are}
 use Rattle.pdl_source_stages.proofs.SiteStages.{all_map}

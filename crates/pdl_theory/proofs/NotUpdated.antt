@@ -7,12 +7,12 @@ use Rattle.pdl_semantics.specs.Locks.{has_room}
 use Rattle.pdl_semantics.specs.Sound.{stages_from, is_fetch}
 use Rattle.pdl_semantics.specs.Promises.{fits_kind}
 use Rattle.pdl_semantics.specs.Updates.{is_update, without_updates, not_updated}
-use Rattle.pdl_theory_derived.specs.Alone.{before}
-use Rattle.pdl_theory_facts.specs.Scans.{none_of, no_guards, op_ok, Scan, scan_after, no_scan, reads_ok, Fresh, phase_all, is_over, is_dead, is_fixed, binds_var}
-use Rattle.pdl_theory_facts.specs.GuessScans.{Unmade, makings_ok, making_all, is_made, checks_apart, once, all_sure}
-use Rattle.pdl_theory_facts.specs.Graphs.{Graph, Branches, goes_by, next_of}
-use Rattle.pdl_theory_facts.specs.Accepted.{Accepted, Pathwise, along}
-use Rattle.pdl_theory_facts.specs.Facts.{Sound, FetchOk, FetchIf, AllFetches, DifferIn, is_fetch_of, trunk_only, late_for, is_unseen, fetch_apart, looked_all, at_once, comes_by, visits_stage}
+use Rattle.pdl_theory_turns.specs.Alone.{before}
+use Rattle.pdl_theory_turns.specs.Scans.{none_of, no_guards, op_ok, Scan, scan_after, no_scan, reads_ok, Fresh, phase_all, is_over, is_dead, is_fixed, binds_var}
+use Rattle.pdl_theory_turns.specs.GuessScans.{Unmade, makings_ok, making_all, is_made, checks_apart, once, all_sure}
+use Rattle.pdl_theory_turns.specs.Graphs.{Graph, Branches, goes_by, next_of}
+use Rattle.pdl_theory_turns.specs.Accepted.{Accepted, Pathwise, along}
+use Rattle.pdl_theory_turns.specs.Facts.{Sound, FetchOk, FetchIf, AllFetches, DifferIn, is_fetch_of, trunk_only, late_for, is_unseen, fetch_apart, looked_all, at_once, comes_by, visits_stage}
 use Rattle.pdl_semantics.proofs.Updates.{both_left}
 use Rattle.pdl_theory.proofs.UpdatesLeftOut.{before_left, stage_left, from_left, path_left, looked_left, scanned, all_left, none_left, at_left, fixed_left, late_left, unseen_left, apart_left, scan_idle, phases_left, phase_left, reserves_left, verify_left, makings_left, making_left, checks_left, once_left, sure_left}
 

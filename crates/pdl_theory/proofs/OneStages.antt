@@ -12,25 +12,25 @@ use Rattle.pdl_semantics.specs.Flatten.{flat, mems_of}
 use Rattle.pdl_semantics.specs.Tree
 use Rattle.pdl_semantics.specs.Cycle
 use Rattle.pdl_semantics.specs.Moves
-use Rattle.pdl_theory_derived.specs.Derived.{Hint, Around, Work, Thread, State, Act, do_all, work_after, work_of_stage, around, answered_thread, act, acts, all_acts, cycle, turns_from, first, is_wait, waits_from, next_ask, next_asks, nothing_asked, asks_of, commits_of, said}
-use Rattle.pdl_theory_derived.specs.Derived
-use Rattle.pdl_theory_derived.specs.Alone.{answered_op}
-use Rattle.pdl_theory_derived.specs.Simulation.{SameTurns, hints_of}
-use Rattle.pdl_theory_derived.specs.OneStage.{IsThread, AreThreads}
-use Rattle.pdl_theory_derived.proofs.Stages.{step}
-use Rattle.pdl_theory_derived.proofs.Writes.{and_left, and_right, of_mem_append}
-use Rattle.pdl_theory_facts.specs.Scans.{none_of}
-use Rattle.pdl_theory_facts.specs.GuessScans.{Making, Unmade, is_unmade, is_guessed, next_making, making_ok, makings_ok, stands_before}
-use Rattle.pdl_theory_facts.specs.Facts.{looked_all, Sound}
+use Rattle.pdl_theory_turns.specs.Derived.{Hint, Around, Work, Thread, State, Act, do_all, work_after, work_of_stage, around, answered_thread, act, acts, all_acts, cycle, turns_from, first, is_wait, waits_from, next_ask, next_asks, nothing_asked, asks_of, commits_of, said}
+use Rattle.pdl_theory_turns.specs.Derived
+use Rattle.pdl_theory_turns.specs.Alone.{answered_op}
+use Rattle.pdl_theory_turns.specs.Simulation.{SameTurns, hints_of}
+use Rattle.pdl_theory_turns.specs.OneStage.{IsThread, AreThreads}
+use Rattle.pdl_theory_turns.proofs.Stages.{step}
+use Rattle.pdl_theory_turns.proofs.Writes.{and_left, and_right, of_mem_append}
+use Rattle.pdl_theory_turns.specs.Scans.{none_of}
+use Rattle.pdl_theory_turns.specs.GuessScans.{Making, Unmade, is_unmade, is_guessed, next_making, making_ok, makings_ok, stands_before}
+use Rattle.pdl_theory_turns.specs.Facts.{looked_all, Sound}
 use Rattle.pdl_theory_turns.proofs.CourseOf.{course}
 use Rattle.pdl_theory_turns.proofs.Guesses
 use Rattle.pdl_semantics.specs.Stages.{is_check}
 use Rattle.pdl_theory_turns.proofs.Paths.{stage_path}
-use Rattle.pdl_theory_refinement.proofs.Cycle.{ends_one}
-use Rattle.pdl_theory_refinement.proofs.Refine.{writes_more}
-use Rattle.pdl_theory_refinement.proofs.Spots.{Spot, Standing, is_nil}
-use Rattle.pdl_theory_refinement.proofs.Follows.{Runs, runs_cycle, runs_first, low_end}
-use Rattle.pdl_theory_progress.proofs.Rates.{left_some, cycle_left, leads, lead, left, turn_path}
+use Rattle.pdl_theory.proofs.Cycle.{ends_one}
+use Rattle.pdl_theory.proofs.Refine.{writes_more}
+use Rattle.pdl_theory.proofs.Spots.{Spot, Standing, is_nil}
+use Rattle.pdl_theory.proofs.Follows.{Runs, runs_cycle, runs_first, low_end}
+use Rattle.pdl_theory.proofs.Rates.{left_some, cycle_left, leads, lead, left, turn_path}
 use Rattle.pdl_theory_simulation.proofs.PerMemory.{at_mem}
 use Rattle.pdl_theory.proofs.StatedTheorems.{whole_same}
 use Rattle.pdl_theory_turns.proofs.OfStage.{none_stage}

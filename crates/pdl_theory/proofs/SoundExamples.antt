@@ -7,14 +7,14 @@ use Rattle.pdl_semantics.specs.Flatten.{flat}
 use Rattle.pdl_semantics.proofs.Pipes.{two_writes, two_writes_apart, one_stage, shared_guard, count_queue, guess, far_barrier, copy, copy_guessed, count_slow, two_branches, one_branch, forked, everything, dead_read, nested, nested_straight, four_levels, nested_guess, updated, guess_learnt, guess_kept}
 use Rattle.pdl_semantics.proofs.Texts.{number, constant, variable, slice, plus, separator, bind, delayed_read, call, spec_barrier, if_else, slow, pipe, write, reserve, block, release, spec_call, verify, update, spec_check, lock, comb}
 use Rattle.pdl_semantics.specs.Flat.{Arrays, Pipe, CombRead}
-use Rattle.pdl_theory_derived.specs.Derived.{Hint}
-use Rattle.pdl_theory_derived.specs.Alone.{Refines, Advances, KeepsPace}
-use Rattle.pdl_theory_facts.specs.SoundChecks.{passes_tests}
+use Rattle.pdl_theory_turns.specs.Derived.{Hint}
+use Rattle.pdl_theory_turns.specs.Alone.{Refines, Advances, KeepsPace}
+use Rattle.pdl_theory_turns.specs.SoundChecks.{passes_tests}
 use Rattle.pdl_theory_turns.proofs.Courses.{Course}
 use Rattle.pdl_theory_turns.proofs.CourseOf.{course}
-use Rattle.pdl_theory_refinement.proofs.Follows.{refines, advances}
-use Rattle.pdl_theory_progress.proofs.Rates.{keeps_pace}
-use Rattle.pdl_theory_progress.proofs.SoundTests.{sounded}
+use Rattle.pdl_theory.proofs.Follows.{refines, advances}
+use Rattle.pdl_theory.proofs.Rates.{keeps_pace}
+use Rattle.pdl_theory.proofs.SoundTests.{sounded}
 use Rattle.pdl_theory.proofs.StatedTheorems.{whole_refines, whole_advances, whole_paces, updates_alike, whole_idle}
 use Rattle.pdl_semantics.specs.Updates.{CommitsAlike}
 use Rattle.pdl_semantics.specs.Promises

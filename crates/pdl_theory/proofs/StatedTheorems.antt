@@ -6,16 +6,16 @@ use Rattle.pdl_semantics.specs.Promises.{Refines, Advances, KeepsPace, DifferInA
 use Rattle.pdl_semantics.specs.Updates.{not_updated, CommitsAlike}
 use Rattle.pdl_semantics.proofs.Updates.{commits_alike}
 use Rattle.pdl_semantics.proofs.Advice.{advice_is_idle}
-use Rattle.pdl_theory_derived.specs.Derived
-use Rattle.pdl_theory_derived.specs.Derived.{Hint}
-use Rattle.pdl_theory_facts.specs.Facts.{Sound}
-use Rattle.pdl_theory_facts.specs.Scans.{is_plain}
-use Rattle.pdl_theory_derived.specs.Simulation.{SameTurns, hints_of}
+use Rattle.pdl_theory_turns.specs.Derived
+use Rattle.pdl_theory_turns.specs.Derived.{Hint}
+use Rattle.pdl_theory_turns.specs.Facts.{Sound}
+use Rattle.pdl_theory_turns.specs.Scans.{is_plain}
+use Rattle.pdl_theory_turns.specs.Simulation.{SameTurns, hints_of}
 use Rattle.pdl_theory_simulation.proofs.CarriedTheorems.{carries_refines, carries_advances, carries_pace}
 use Rattle.pdl_theory_turns.proofs.CourseOf.{course}
-use Rattle.pdl_theory_refinement.proofs.Follows
+use Rattle.pdl_theory.proofs.Follows
 use Rattle.pdl_theory_simulation.proofs.AcceptedFacts.{sound_flows}
-use Rattle.pdl_theory_progress.proofs.Rates
+use Rattle.pdl_theory.proofs.Rates
 use Rattle.pdl_theory_simulation.proofs.Foretold.{same_turns}
 use Rattle.pdl_theory.proofs.NotUpdated.{sound_left}
 

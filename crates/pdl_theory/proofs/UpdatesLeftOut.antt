@@ -7,10 +7,10 @@ use Rattle.pdl_semantics.specs.Stages.{onpath, in_stage, is_verify, verify_stage
 use Rattle.pdl_semantics.specs.SecondWrites.{write_reserves}
 use Rattle.pdl_semantics.specs.Sound.{stages_from, is_barrier}
 use Rattle.pdl_semantics.specs.Updates.{is_update, without_updates}
-use Rattle.pdl_theory_derived.specs.Alone.{before, answered_op}
-use Rattle.pdl_theory_facts.specs.Scans.{none_of, all_at, free_of, is_dead, keeps_guards, is_fixed, binds_var, Scan, scan_after, no_guards, Phase, phase_ok, next_phase, phases_ok, phase_all}
-use Rattle.pdl_theory_facts.specs.GuessScans.{Making, Unmade, Guessed, Made, next_making, making_all, making_ok, makings_ok, guess_stage, check_apart, checks_apart, once, is_sure, all_sure}
-use Rattle.pdl_theory_facts.specs.Facts.{asks_for, mentions_var, silent_on, unseen_op, is_unseen, fetches_no, none_like, alone_op, fetch_apart, binds_guard, defined_by, late_for, looked_all}
+use Rattle.pdl_theory_turns.specs.Alone.{before, answered_op}
+use Rattle.pdl_theory_turns.specs.Scans.{none_of, all_at, free_of, is_dead, keeps_guards, is_fixed, binds_var, Scan, scan_after, no_guards, Phase, phase_ok, next_phase, phases_ok, phase_all}
+use Rattle.pdl_theory_turns.specs.GuessScans.{Making, Unmade, Guessed, Made, next_making, making_all, making_ok, makings_ok, guess_stage, check_apart, checks_apart, once, is_sure, all_sure}
+use Rattle.pdl_theory_turns.specs.Facts.{asks_for, mentions_var, silent_on, unseen_op, is_unseen, fetches_no, none_like, alone_op, fetch_apart, binds_guard, defined_by, late_for, looked_all}
 use Rattle.pdl_theory_simulation.proofs.FlowScans.{is_update_looked}
 
 -- PARTS OF THE STATEMENTS

@@ -1,5 +1,7 @@
 //! Pipeline refinement and Progress, of every pipe of the whole language.
 //!
+//! First it is shown of the machine that the proofs use: its live threads follow the sequential turns, what it commits is what they write, its oldest thread advances, and enough threads end.
+//!
 //! The functions do nothing: the clause of each is a theorem on the machine of `pdl_semantics`, over any flat pipe with the facts of an accepted one (`Sound`), any image and any replies of delayed memories. A pipe that passes the tests of `SoundChecks` has these facts.
 #![tactic(auto)]
 
@@ -12,13 +14,13 @@ ghost use Rattle.pdl_semantics.specs.Lines.{run_lines, sequential_lines};
 ghost use Rattle.pdl_semantics.specs.Cycle.{first, turns};
 ghost use Rattle.pdl_semantics.specs.Promises.{Refines, Advances, KeepsPace, DifferInAdvice, AdviceIsIdle};
 ghost use Rattle.pdl_semantics.specs.Updates.{WritesAlike, CommitsAlike, not_updated};
-ghost use Rattle.pdl_theory_facts.specs.Facts.{Sound};
-ghost use Rattle.pdl_theory_facts.specs.SoundChecks.{passes_tests};
-ghost use Rattle.pdl_theory_derived.specs.Alone;
-ghost use Rattle.pdl_theory_derived.specs.Simulation.{SameTurns, hints_of};
-ghost use Rattle.pdl_theory_derived.specs.OneStage.{AreThreads};
-ghost use Rattle.pdl_theory_derived.specs.Derived.{Hint};
-ghost use Rattle.pdl_theory_derived.specs.Derived;
+ghost use Rattle.pdl_theory_turns.specs.Facts.{Sound};
+ghost use Rattle.pdl_theory_turns.specs.SoundChecks.{passes_tests};
+ghost use Rattle.pdl_theory_turns.specs.Alone;
+ghost use Rattle.pdl_theory_turns.specs.Simulation.{SameTurns, hints_of};
+ghost use Rattle.pdl_theory_turns.specs.OneStage.{AreThreads};
+ghost use Rattle.pdl_theory_turns.specs.Derived.{Hint};
+ghost use Rattle.pdl_theory_turns.specs.Derived;
 
 /// Pipeline refinement and Progress in the whole language: guesses, delayed reads and forks.
 pub fn whole_language()

@@ -4,14 +4,14 @@ use Rattle.std.proofs.lemmas.Bool.{eqb-true, eqb-false, ne_eqb, false≢true}
 use Rattle.pdl_semantics.specs.Flat.{list_all, Pipe, Branch, Op, DelayedRead, Stmt, all_hold}
 use Rattle.pdl_semantics.specs.Stages.{onpath, in_stage, stage_at, goes_to, is_inside, commit_stage, verify_stage, is_check, is_verify}
 use Rattle.pdl_semantics.specs.Sound.{stages_before, stages_from, is_fetch, is_call, is_delayed_read, is_spec_call}
-use Rattle.pdl_theory_derived.specs.Alone.{before, answered_op}
-use Rattle.pdl_theory_facts.specs.Scans.{Phase, Fresh, next_phase, phase_all, is_over, none_of, binds_var, is_dead}
-use Rattle.pdl_theory_facts.specs.GuessScans.{Unmade, makings_ok, checks_apart, is_update, once}
-use Rattle.pdl_theory_facts.specs.Graphs.{Home, Within, Below, Way, stage_or, next_of}
-use Rattle.pdl_theory_facts.proofs.Nested.{arrives}
-use Rattle.pdl_theory_facts.specs.Facts.{is_fetch_of, none_like, alone_op, fetch_apart, Found, FetchIf, AllFetches, looked_all, at_once, visits_stage, defined_by, late_for, Sound}
+use Rattle.pdl_theory_turns.specs.Alone.{before, answered_op}
+use Rattle.pdl_theory_turns.specs.Scans.{Phase, Fresh, next_phase, phase_all, is_over, none_of, binds_var, is_dead}
+use Rattle.pdl_theory_turns.specs.GuessScans.{Unmade, makings_ok, checks_apart, is_update, once}
+use Rattle.pdl_theory_turns.specs.Graphs.{Home, Within, Below, Way, stage_or, next_of}
+use Rattle.pdl_theory_turns.proofs.Nested.{arrives}
+use Rattle.pdl_theory_turns.specs.Facts.{is_fetch_of, none_like, alone_op, fetch_apart, Found, FetchIf, AllFetches, looked_all, at_once, visits_stage, defined_by, late_for, Sound}
 use Rattle.pdl_theory_simulation.proofs.FlowFacts.{Ways, Flows, FlowRules, Leads, AllOf, DefinedBy, binds_guard, use_ok, uses_ok, call_ok, calls_ok, at_most_one}
-use Rattle.pdl_theory_derived.proofs.Writes.{and_left, and_right}
+use Rattle.pdl_theory_turns.proofs.Writes.{and_left, and_right}
 use Rattle.pdl_theory_turns.proofs.Paths.{dead_none, stage_path}
 use Rattle.pdl_theory_turns.proofs.Looks.{path_looked}
 use Rattle.pdl_theory_turns.proofs.StrayPaths.{fixed_looked}
@@ -211,10 +211,10 @@ from_mem m _ h R go = absurd (false≢true h)
 like_none : (x m : ℕ) (ys : List Stmt) → none_like x m ys ≡ true → none_of (is_delayed_read m) ys ≡ true
 like_none x m [] h = refl
 like_none x m (y ∷ ys) h =
-    ap₂ (λ a b. a && b) (one y.op (and_left (Rattle.pdl_theory_facts.specs.Facts.fetches_no x m y.op) _ h))
-    (like_none x m ys (and_right (Rattle.pdl_theory_facts.specs.Facts.fetches_no x m y.op) _ h))
+    ap₂ (λ a b. a && b) (one y.op (and_left (Rattle.pdl_theory_turns.specs.Facts.fetches_no x m y.op) _ h))
+    (like_none x m ys (and_right (Rattle.pdl_theory_turns.specs.Facts.fetches_no x m y.op) _ h))
   where
-    one : (op : Op) → Rattle.pdl_theory_facts.specs.Facts.fetches_no x m op ≡ true → not (is_delayed_read m op) ≡ true
+    one : (op : Op) → Rattle.pdl_theory_turns.specs.Facts.fetches_no x m op ≡ true → not (is_delayed_read m op) ≡ true
     one (DelayedRead z n a) k = ap not (ne_eqb n m (λ e. false≢true (sym (ap not (eq-eqb m n (sym e))) ∙ and_right (not (x == z)) _ k)))
     one _ k = refl
 
@@ -415,7 +415,7 @@ module _ (p : Pipe) (acc : Sound p) where
         uses =
             λ path m. sym (uses_looked m Fresh (onpath path p.stmts))
             ∙ uses_of m Fresh (looked_all (onpath path p.stmts))
-            (subst (λ l. Rattle.pdl_theory_facts.specs.Scans.phases_ok m Fresh l ≡ true) (path_looked path p.stmts) ((acc.pathwise.paths path).phases m));
+            (subst (λ l. Rattle.pdl_theory_turns.specs.Scans.phases_ok m Fresh l ≡ true) (path_looked path p.stmts) ((acc.pathwise.paths path).phases m));
         over =
             λ path m. ap is_over (sym (phases_looked m Fresh (onpath path p.stmts)) ∙ ap (phase_all m Fresh) (sym (path_looked path p.stmts)))
             ∙ (acc.pathwise.paths path).over m;

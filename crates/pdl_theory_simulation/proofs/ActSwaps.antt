@@ -5,10 +5,10 @@ use Rattle.pdl_semantics.specs.Flat.{Op, ReserveWrite, Call, SpecCall, Verify, S
 use Rattle.pdl_semantics.specs.Machine.{Ask, Request, Pending, Deeds, deeds_after_all}
 use Rattle.pdl_semantics.specs.Cycle.{with_value_of, with_writes_of, asked_of, address_of, or_then}
 use Rattle.pdl_semantics.specs.Machine
-use Rattle.pdl_theory_derived.specs.Derived.{find_ask}
-use Rattle.pdl_theory_facts.specs.Scans.{none_of}
+use Rattle.pdl_theory_turns.specs.Derived.{find_ask}
+use Rattle.pdl_theory_turns.specs.Scans.{none_of}
 use Rattle.pdl_theory_simulation.proofs.FlowFacts.{trunk_only}
-use Rattle.pdl_theory_derived.proofs.Writes.{and_left, and_right}
+use Rattle.pdl_theory_turns.proofs.Writes.{and_left, and_right}
 
 -- the first two of three truth values change places in a disjunction
 pub or_swap : (a b c : Bool) → (a || (b || c)) ≡ (b || (a || c))

@@ -8,7 +8,7 @@ use Rattle.pdl_semantics.specs.Machine
 use Rattle.pdl_semantics.specs.Moves.{Act, movers}
 use Rattle.pdl_semantics.specs.Cycle.{with_advised, with_all_advised}
 use Rattle.pdl_semantics.specs.Promises.{fits_kind}
-use Rattle.pdl_theory_derived.proofs.Writes.{and_left, and_right}
+use Rattle.pdl_theory_turns.proofs.Writes.{and_left, and_right}
 
 -- writes of advisory memories alone
 abbrev pub AllAdvisory : Pipe → List Advised → Type 0

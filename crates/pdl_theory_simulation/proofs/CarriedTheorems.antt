@@ -9,13 +9,13 @@ use Rattle.pdl_semantics.specs.Promises.{KeepsPace, IsPrefix, older_of, oldest_a
 use Rattle.pdl_semantics.specs.Cycle
 use Rattle.pdl_semantics.specs.Moves
 use Rattle.pdl_semantics.specs.Promises
-use Rattle.pdl_theory_derived.specs.Alone.{oldest_moves}
-use Rattle.pdl_theory_derived.specs.Alone
-use Rattle.pdl_theory_derived.specs.Derived
-use Rattle.pdl_theory_derived.specs.Simulation.{SameTurns, hints_of}
+use Rattle.pdl_theory_turns.specs.Alone.{oldest_moves}
+use Rattle.pdl_theory_turns.specs.Alone
+use Rattle.pdl_theory_turns.specs.Derived
+use Rattle.pdl_theory_turns.specs.Simulation.{SameTurns, hints_of}
 use Rattle.pdl_theory_simulation.proofs.FlowFacts.{Flows}
-use Rattle.pdl_theory_derived.proofs.Writes.{of_mem_append, row_committed}
-use Rattle.pdl_theory_derived.proofs.Slots.{rev}
+use Rattle.pdl_theory_turns.proofs.Writes.{of_mem_append, row_committed}
+use Rattle.pdl_theory_turns.proofs.Slots.{rev}
 use Rattle.pdl_theory_simulation.proofs.Seats.{Live, Falls, dacts, lacts, lact}
 use Rattle.pdl_theory_simulation.proofs.ThreadFacts.{sorted}
 use Rattle.pdl_theory_simulation.proofs.Orders.{acts_of, AllForetold}

@@ -12,14 +12,14 @@ use Rattle.pdl_semantics.specs.Moves
 use Rattle.pdl_semantics.specs.Promises.{DifferInAdvice, fits_kind}
 use Rattle.pdl_theory_turns.proofs.Paths.{Fixed}
 use Rattle.pdl_theory_simulation.proofs.Guessing.{unguessed, foreseen, renewed}
-use Rattle.pdl_theory_derived.specs.Derived.{Work, latest, pending, befores, around, awaits_mem, port_free, still, asked_at, word_of}
-use Rattle.pdl_theory_derived.specs.Derived
-use Rattle.pdl_theory_facts.specs.Scans.{all_at, none_of}
+use Rattle.pdl_theory_turns.specs.Derived.{Work, latest, pending, befores, around, awaits_mem, port_free, still, asked_at, word_of}
+use Rattle.pdl_theory_turns.specs.Derived
+use Rattle.pdl_theory_turns.specs.Scans.{all_at, none_of}
 use Rattle.pdl_theory_simulation.proofs.FlowFacts.{Flows, at_most_one, next_of}
-use Rattle.pdl_theory_derived.proofs.Writes.{and_left, and_right}
-use Rattle.pdl_theory_derived.proofs.Entries.{entries_of}
-use Rattle.pdl_theory_derived.proofs.Deeds.{Told, Fits, AllFit, AllGuesses, Loosely, loose_start, loose_all, told_all}
-use Rattle.pdl_theory_derived.proofs.Lists.{pend}
+use Rattle.pdl_theory_turns.proofs.Writes.{and_left, and_right}
+use Rattle.pdl_theory_turns.proofs.Entries.{entries_of}
+use Rattle.pdl_theory_turns.proofs.Deeds.{Told, Fits, AllFit, AllGuesses, Loosely, loose_start, loose_all, told_all}
+use Rattle.pdl_theory_turns.proofs.Lists.{pend}
 use Rattle.pdl_theory_turns.proofs.OwnEntries.{Worked}
 use Rattle.pdl_theory_simulation.proofs.Stretches.{Keeps, Fetched, AllFetched, start_deeds, start_of, has_made, fixed_here, calls_here, keeps_answered, stage_worked, ends_empty, late_empty, has_done, once_here}
 use Rattle.pdl_theory_simulation.proofs.StretchSteps.{AsksFrom, asks_from, ReservesFrom, reserves_from}
@@ -29,7 +29,7 @@ use Rattle.pdl_theory_turns.proofs.Turn.{none_in_stage}
 use Rattle.pdl_semantics.specs.Sound.{is_delayed_read, is_spec_call}
 use Rattle.pdl_word.specs.Each.{Each}
 use Rattle.pdl_semantics.proofs.Facts.{kept_append}
-use Rattle.pdl_theory_facts.specs.GuessScans.{is_update}
+use Rattle.pdl_theory_turns.specs.GuessScans.{is_update}
 use Rattle.pdl_theory_turns.proofs.Guesses.{unfailed}
 
 -- REQUESTS

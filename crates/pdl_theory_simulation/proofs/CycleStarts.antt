@@ -8,8 +8,8 @@ use Rattle.pdl_semantics.specs.Cycle
 use Rattle.pdl_semantics.specs.Locks
 use Rattle.pdl_semantics.specs.Machine
 use Rattle.pdl_semantics.specs.Moves
-use Rattle.pdl_theory_derived.specs.Derived
-use Rattle.pdl_theory_derived.proofs.Slots.{stages_same}
+use Rattle.pdl_theory_turns.specs.Derived
+use Rattle.pdl_theory_turns.proofs.Slots.{stages_same}
 use Rattle.pdl_theory_simulation.proofs.FlowFacts.{Flows}
 use Rattle.pdl_theory_simulation.proofs.Seats.{Live, each_map, Rises, sacts, lacts, acts_slots}
 use Rattle.pdl_theory_simulation.proofs.Choices.{Seated, AllKnown}

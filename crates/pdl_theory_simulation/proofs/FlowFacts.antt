@@ -6,11 +6,11 @@ use Rattle.pdl_semantics.specs.Cycle.{merges_by}
 use Rattle.pdl_semantics.specs.Stages.{is_check}
 use Rattle.pdl_semantics.specs.Promises.{KeepsAdvice}
 use Rattle.pdl_semantics.specs.Sound.{stages_before, stages_from, is_fetch, is_call, is_delayed_read, is_spec_call}
-pub use Rattle.pdl_theory_facts.specs.Graphs.{Home, Within, Trunk, Below, Way, stage_or, next_of, on_side, goes_by}
-use Rattle.pdl_theory_derived.specs.Alone.{is_among}
-use Rattle.pdl_theory_facts.specs.Scans.{Phase, Fresh, next_phase, may_write, is_new, is_over, phase_all, all_at, none_of, binds_var, is_fixed}
-pub use Rattle.pdl_theory_facts.specs.Facts.{trunk_only, binds_guard, is_fetch_of, comes_by, visits_stage}
-use Rattle.pdl_theory_facts.specs.GuessScans.{is_update, once}
+pub use Rattle.pdl_theory_turns.specs.Graphs.{Home, Within, Trunk, Below, Way, stage_or, next_of, on_side, goes_by}
+use Rattle.pdl_theory_turns.specs.Alone.{is_among}
+use Rattle.pdl_theory_turns.specs.Scans.{Phase, Fresh, next_phase, may_write, is_new, is_over, phase_all, all_at, none_of, binds_var, is_fixed}
+pub use Rattle.pdl_theory_turns.specs.Facts.{trunk_only, binds_guard, is_fetch_of, comes_by, visits_stage}
+use Rattle.pdl_theory_turns.specs.GuessScans.{is_update, once}
 
 -- a statement that gives variable x its value in its own stage
 abbrev pub sets : ℕ → Op → Bool

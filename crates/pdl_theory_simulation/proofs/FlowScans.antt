@@ -3,12 +3,12 @@ use Rattle.std.proofs.Common.{◌≡◌, refl, ap, ap₂, ◌∙◌, ℕ, ◌&&�
 use Rattle.std.proofs.lemmas.Bool.{eqb-true, false≢true}
 use Rattle.pdl_semantics.specs.Flat.{Op, Write, ReserveWrite, Release, SpecCall, Verify, Call, Stmt, DelayedRead}
 use Rattle.pdl_semantics.specs.Stages.{in_stage, is_check, is_verify}
-use Rattle.pdl_theory_derived.specs.Alone.{answered_op}
-use Rattle.pdl_theory_facts.specs.Scans.{Phase, phase_ok, phases_ok, next_phase, none_of}
-use Rattle.pdl_theory_facts.specs.Facts.{looked_all}
-use Rattle.pdl_theory_facts.specs.GuessScans.{Making, Unmade, Guessed, Made, next_making, is_unmade, is_guessed, making_ok, makings_ok, guess_stage, check_apart, checks_apart, is_update, once, stands_at, stands_before}
+use Rattle.pdl_theory_turns.specs.Alone.{answered_op}
+use Rattle.pdl_theory_turns.specs.Scans.{Phase, phase_ok, phases_ok, next_phase, none_of}
+use Rattle.pdl_theory_turns.specs.Facts.{looked_all}
+use Rattle.pdl_theory_turns.specs.GuessScans.{Making, Unmade, Guessed, Made, next_making, is_unmade, is_guessed, making_ok, makings_ok, guess_stage, check_apart, checks_apart, is_update, once, stands_at, stands_before}
 use Rattle.pdl_theory_simulation.proofs.FlowFacts.{use_ok, uses_ok, call_ok, calls_ok}
-use Rattle.pdl_theory_derived.proofs.Writes.{and_left, and_right}
+use Rattle.pdl_theory_turns.proofs.Writes.{and_left, and_right}
 use Rattle.pdl_semantics.specs.Sound.{is_call, is_spec_call}
 
 -- the use of a lock

@@ -7,11 +7,11 @@ use Rattle.pdl_semantics.specs.Machine.{State, with_answers}
 use Rattle.pdl_semantics.specs.Sound.{is_spec_call}
 use Rattle.pdl_semantics.specs.Cycle
 use Rattle.pdl_semantics.specs.Moves
-use Rattle.pdl_theory_derived.specs.Derived.{Work, around}
-use Rattle.pdl_theory_derived.specs.Derived
-use Rattle.pdl_theory_derived.specs.Simulation.{SameTurns, said_in, said_of, made_hints, hints_of}
-use Rattle.pdl_theory_facts.specs.Scans.{none_of, called}
-use Rattle.pdl_theory_facts.specs.GuessScans.{is_update, once}
+use Rattle.pdl_theory_turns.specs.Derived.{Work, around}
+use Rattle.pdl_theory_turns.specs.Derived
+use Rattle.pdl_theory_turns.specs.Simulation.{SameTurns, said_in, said_of, made_hints, hints_of}
+use Rattle.pdl_theory_turns.specs.Scans.{none_of, called}
+use Rattle.pdl_theory_turns.specs.GuessScans.{is_update, once}
 use Rattle.pdl_theory_simulation.proofs.FlowFacts.{Flows, stage_or}
 use Rattle.pdl_theory_simulation.proofs.Onces.{has_any, none_any, once_only, once_called}
 use Rattle.pdl_theory_simulation.proofs.Stretches.{has_done, done_then, once_here}

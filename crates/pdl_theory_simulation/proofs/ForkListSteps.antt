@@ -4,9 +4,9 @@ use Rattle.pdl_semantics.specs.Flat.{Op, Verify, Stmt}
 use Rattle.pdl_semantics.specs.Stages.{is_check}
 use Rattle.pdl_semantics.specs.Moves.{is_nobody}
 use Rattle.pdl_semantics.specs.Cycle.{but_first}
-use Rattle.pdl_theory_facts.specs.Scans.{none_of}
+use Rattle.pdl_theory_turns.specs.Scans.{none_of}
 use Rattle.pdl_theory_simulation.proofs.FlowFacts.{trunk_only}
-use Rattle.pdl_theory_derived.proofs.Writes.{and_left, and_right}
+use Rattle.pdl_theory_turns.proofs.Writes.{and_left, and_right}
 
 -- statements that may stand in a branch have no verify and no update among them
 pub unchecked_trunk : (xs : List Stmt) → none_of trunk_only xs ≡ true → none_of is_check xs ≡ true

@@ -9,12 +9,12 @@ use Rattle.pdl_semantics.specs.Cycle.{entered_branches, goes_into, goes_out, has
 use Rattle.pdl_semantics.specs.Cycle
 use Rattle.pdl_semantics.specs.Moves
 use Rattle.pdl_semantics.specs.Promises.{DifferInAdvice}
-use Rattle.pdl_theory_derived.specs.Derived.{Work, around}
-use Rattle.pdl_theory_derived.specs.Derived
-use Rattle.pdl_theory_facts.specs.Scans.{none_of}
-use Rattle.pdl_theory_facts.proofs.Nested.{within_home, came_from_way, inside_at, not_inside, inside_of, sides_outside, sides_other, outside_self, sides_inside}
+use Rattle.pdl_theory_turns.specs.Derived.{Work, around}
+use Rattle.pdl_theory_turns.specs.Derived
+use Rattle.pdl_theory_turns.specs.Scans.{none_of}
+use Rattle.pdl_theory_turns.proofs.Nested.{within_home, came_from_way, inside_at, not_inside, inside_of, sides_outside, sides_other, outside_self, sides_inside}
 use Rattle.pdl_theory_simulation.proofs.FlowFacts.{Home, Within, Trunk, Way, Flows, Leads}
-use Rattle.pdl_theory_derived.proofs.Writes.{and_right}
+use Rattle.pdl_theory_turns.proofs.Writes.{and_right}
 use Rattle.pdl_theory_simulation.proofs.Stretches.{Behind, left_trunk, fork_left, start_of}
 use Rattle.pdl_theory_simulation.proofs.Seats.{Live, each_map, Ordered, dacts, lacts, lact, did, now_of, deeds_of, work_of_live, advised}
 use Rattle.pdl_theory_simulation.proofs.Choices.{Known, AllKnown, like_here}

@@ -5,13 +5,13 @@ use Rattle.pdl_semantics.specs.Stages.{onpath, is_check, is_verify}
 use Rattle.pdl_semantics.specs.Machine.{Ask, Blocked, Deeds, deeds_after_all, same_args, all_values}
 use Rattle.pdl_semantics.specs.Machine
 use Rattle.pdl_semantics.specs.Sound.{is_call, is_spec_call}
-use Rattle.pdl_theory_derived.specs.Derived.{Work, Around, work_after}
-use Rattle.pdl_theory_derived.proofs.Deeds.{AllFit, Guesses, AllGuesses, Loosely, loose_step}
-use Rattle.pdl_theory_derived.proofs.Writes.{and_left, and_right}
-use Rattle.pdl_theory_facts.specs.Scans.{none_of}
+use Rattle.pdl_theory_turns.specs.Derived.{Work, Around, work_after}
+use Rattle.pdl_theory_turns.proofs.Deeds.{AllFit, Guesses, AllGuesses, Loosely, loose_step}
+use Rattle.pdl_theory_turns.proofs.Writes.{and_left, and_right}
+use Rattle.pdl_theory_turns.specs.Scans.{none_of}
 use Rattle.pdl_theory_turns.proofs.Paths.{Fixed}
 use Rattle.pdl_theory_simulation.proofs.FlowFacts.{call_ok, calls_ok}
-use Rattle.pdl_theory_facts.specs.GuessScans.{is_update, once}
+use Rattle.pdl_theory_turns.specs.GuessScans.{is_update, once}
 use Rattle.pdl_theory_turns.proofs.Guesses.{same_args_eq}
 use Rattle.pdl_theory_simulation.proofs.Onces.{once_only}
 

@@ -8,11 +8,11 @@ use Rattle.pdl_semantics.specs.Moves.{movers, next_stage}
 use Rattle.pdl_semantics.specs.Cycle
 use Rattle.pdl_semantics.specs.Machine
 use Rattle.pdl_semantics.specs.Promises.{DifferInAdvice}
-use Rattle.pdl_theory_derived.specs.Derived.{Work, around, survivors, moved_to, born_threads, exit_of, fresh}
-use Rattle.pdl_theory_derived.specs.Derived
+use Rattle.pdl_theory_turns.specs.Derived.{Work, around, survivors, moved_to, born_threads, exit_of, fresh}
+use Rattle.pdl_theory_turns.specs.Derived
 use Rattle.pdl_theory_simulation.proofs.FlowFacts.{Flows, next_of}
-use Rattle.pdl_theory_derived.proofs.Writes.{and_left}
-use Rattle.pdl_theory_derived.proofs.Slots.{rev}
+use Rattle.pdl_theory_turns.proofs.Writes.{and_left}
+use Rattle.pdl_theory_turns.proofs.Slots.{rev}
 use Rattle.pdl_theory_simulation.proofs.Stretches.{has_made, stage_child}
 use Rattle.pdl_theory_simulation.proofs.StretchSteps.{Childed}
 use Rattle.pdl_theory_simulation.proofs.Seats.{advised, Live, seat, find, threads_of, each_map, Falls, falls_each, dacts, lacts, lact, did, now_of, work_of_live, deeds_of}

@@ -9,13 +9,13 @@ use Rattle.pdl_semantics.specs.Cycle.{awaited_of, new_entries, with_reserves, wi
 use Rattle.pdl_theory_turns.proofs.EntryCommits.{released}
 use Rattle.pdl_semantics.specs.Moves
 use Rattle.pdl_semantics.specs.Promises.{DifferInAdvice}
-use Rattle.pdl_theory_derived.specs.Derived.{Entry, Work, commits_of}
-use Rattle.pdl_theory_derived.specs.Derived
+use Rattle.pdl_theory_turns.specs.Derived.{Entry, Work, commits_of}
+use Rattle.pdl_theory_turns.specs.Derived
 use Rattle.pdl_theory_simulation.proofs.FlowFacts.{Flows, stage_or, next_of, Trunk}
-use Rattle.pdl_theory_derived.proofs.Writes.{of_mem_append}
+use Rattle.pdl_theory_turns.proofs.Writes.{of_mem_append}
 use Rattle.pdl_theory_turns.proofs.Turn.{none_in_stage}
-use Rattle.pdl_theory_derived.proofs.Slots.{rev}
-use Rattle.pdl_theory_derived.proofs.Lists.{own, pend, Foreign, AllForeign, Reserveless, two_moved, two_stays}
+use Rattle.pdl_theory_turns.proofs.Slots.{rev}
+use Rattle.pdl_theory_turns.proofs.Lists.{own, pend, Foreign, AllForeign, Reserveless, two_moved, two_stays}
 use Rattle.pdl_theory_turns.proofs.OwnEntries.{Worked, pend_own, quiet_reserves, quiet_releases}
 use Rattle.pdl_theory_simulation.proofs.LockRemovals.{Out, Still, out_more, foreign_append, foreign_pend, foreign_new, foreign_put_all, commits_more}
 use Rattle.pdl_theory_simulation.proofs.Stretches.{Behind, left_trunk, early, late}

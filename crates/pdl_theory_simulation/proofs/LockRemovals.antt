@@ -5,9 +5,9 @@ use Rattle.pdl_semantics.specs.Flat.{Commit}
 use Rattle.pdl_semantics.specs.Machine.{Pending}
 use Rattle.pdl_semantics.specs.Cycle.{new_entries, with_value_of, with_writes_of}
 use Rattle.pdl_semantics.specs.Machine
-use Rattle.pdl_theory_derived.specs.Derived.{Entry, commits_of}
-use Rattle.pdl_theory_derived.specs.Derived
-use Rattle.pdl_theory_derived.proofs.Lists.{own, pend, Foreign}
+use Rattle.pdl_theory_turns.specs.Derived.{Entry, commits_of}
+use Rattle.pdl_theory_turns.specs.Derived
+use Rattle.pdl_theory_turns.proofs.Lists.{own, pend, Foreign}
 use Rattle.pdl_theory_turns.proofs.EntryCommits.{released}
 
 -- no entry of two lists is thread k's where none of either is

@@ -3,10 +3,10 @@ use Rattle.std.proofs.Common.{◌≡◌, refl, sym, ap, ap₂, ◌∙◌, Bool, 
 use Rattle.pdl_semantics.specs.Flat.{Op, Call, SpecCall, Stmt}
 use Rattle.pdl_semantics.specs.Stages.{list_any}
 use Rattle.pdl_semantics.specs.Sound.{is_call, is_spec_call}
-use Rattle.pdl_theory_facts.specs.Scans.{none_of}
-use Rattle.pdl_theory_facts.specs.GuessScans.{once}
+use Rattle.pdl_theory_turns.specs.Scans.{none_of}
+use Rattle.pdl_theory_turns.specs.GuessScans.{once}
 use Rattle.pdl_theory_simulation.proofs.FlowFacts.{call_ok, calls_ok}
-use Rattle.pdl_theory_derived.proofs.Writes.{and_left, and_right}
+use Rattle.pdl_theory_turns.proofs.Writes.{and_left, and_right}
 
 -- whether some statement is of this kind
 abbrev pub has_any : (Op → Bool) → List Stmt → Bool

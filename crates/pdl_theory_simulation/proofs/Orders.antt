@@ -10,12 +10,12 @@ use Rattle.pdl_semantics.specs.Sound.{is_delayed_read}
 use Rattle.pdl_semantics.specs.Machine
 use Rattle.pdl_semantics.specs.Moves
 use Rattle.pdl_semantics.specs.Promises.{DifferInAdvice}
-use Rattle.pdl_theory_derived.specs.Derived.{latest, pending, befores, awaits_mem, asked_at, port_free}
-use Rattle.pdl_theory_derived.specs.Derived
-use Rattle.pdl_theory_facts.specs.Scans.{none_of}
-use Rattle.pdl_theory_facts.proofs.Nested.{within_home, inside_at, not_inside, sides_outside, outside_self, sides_inside}
+use Rattle.pdl_theory_turns.specs.Derived.{latest, pending, befores, awaits_mem, asked_at, port_free}
+use Rattle.pdl_theory_turns.specs.Derived
+use Rattle.pdl_theory_turns.specs.Scans.{none_of}
+use Rattle.pdl_theory_turns.proofs.Nested.{within_home, inside_at, not_inside, sides_outside, outside_self, sides_inside}
 use Rattle.pdl_theory_simulation.proofs.FlowFacts.{Home, Within, Trunk, Flows, Leads}
-use Rattle.pdl_theory_derived.proofs.Lists.{pend, youngest_append, youngest_other}
+use Rattle.pdl_theory_turns.proofs.Lists.{pend, youngest_append, youngest_other}
 use Rattle.pdl_theory_turns.proofs.OwnEntries.{pend_own}
 use Rattle.pdl_theory_simulation.proofs.Stretches.{Behind, left_trunk, fork_left, not_behind, early}
 use Rattle.pdl_theory_simulation.proofs.Seats.{Live, seat, each_map, Ordered, Rises, Falls, sacts, dacts, lacts, lact, did, deeds_of, befores_are, pends, youngest_all, length_pends}

@@ -7,7 +7,7 @@ use Rattle.pdl_semantics.specs.Machine.{Ask, State, Pending, is_answered}
 use Rattle.pdl_semantics.specs.Moves.{Act}
 use Rattle.pdl_semantics.specs.Cycle.{for_mems, taken_out, with_commit, with_commits}
 use Rattle.pdl_semantics.specs.Promises.{wrote}
-use Rattle.pdl_theory_derived.specs.Derived.{next_ask, next_asks, find_ask}
+use Rattle.pdl_theory_turns.specs.Derived.{next_ask, next_asks, find_ask}
 use Rattle.pdl_theory_turns.proofs.EntryCommits.{released}
 
 -- in a list with an entry for each memory the i-th one is that of the i-th memory

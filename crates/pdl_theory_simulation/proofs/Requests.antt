@@ -7,12 +7,12 @@ use Rattle.pdl_semantics.specs.Machine.{Ask, Awaited, Request, NoRequest, Owned,
 use Rattle.pdl_semantics.specs.Moves.{movers, is_empty, block_ready}
 use Rattle.pdl_semantics.specs.Cycle.{awaited_of, asked_of, asked_by, asked_in, address_of, request_left, is_kept}
 use Rattle.pdl_semantics.specs.Promises.{DifferInAdvice}
-use Rattle.pdl_theory_derived.specs.Derived.{Work, awaits_mem, asked_at, find_ask, asks_of, next_ask, port_free, still, around}
-use Rattle.pdl_theory_derived.specs.Derived
-use Rattle.pdl_theory_facts.specs.Scans.{none_of}
+use Rattle.pdl_theory_turns.specs.Derived.{Work, awaits_mem, asked_at, find_ask, asks_of, next_ask, port_free, still, around}
+use Rattle.pdl_theory_turns.specs.Derived
+use Rattle.pdl_theory_turns.specs.Scans.{none_of}
 use Rattle.pdl_theory_simulation.proofs.FlowFacts.{Flows}
-use Rattle.pdl_theory_derived.proofs.Writes.{and_left, and_right}
-use Rattle.pdl_theory_derived.proofs.Slots.{rev}
+use Rattle.pdl_theory_turns.proofs.Writes.{and_left, and_right}
+use Rattle.pdl_theory_turns.proofs.Slots.{rev}
 use Rattle.pdl_theory_simulation.proofs.Stretches.{Behind, less_home}
 use Rattle.pdl_theory_simulation.proofs.StretchSteps.{AsksFrom}
 use Rattle.pdl_theory_simulation.proofs.Seats.{advised, Live, Ordered, dacts, lacts, lact, did, work_of_live, deeds_of}
@@ -20,7 +20,7 @@ use Rattle.pdl_theory_simulation.proofs.Choices.{has_owner, Matched, one_stage, 
 use Rattle.pdl_theory_simulation.proofs.ThreadFacts.{someone, behind_someone}
 use Rattle.pdl_theory_simulation.proofs.LockLists.{fell, moved_live, stood, next_live, go_on, Agrees}
 use Rattle.pdl_theory_simulation.proofs.LiveThreads.{stuck_here, born_live}
-use Rattle.pdl_theory_derived.proofs.DelayedReads.{find_append}
+use Rattle.pdl_theory_turns.proofs.DelayedReads.{find_append}
 use Rattle.pdl_semantics.specs.Sound.{is_fetch, is_delayed_read}
 
 -- who asks for a memory, and the address

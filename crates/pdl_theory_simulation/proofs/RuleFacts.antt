@@ -5,8 +5,8 @@ use Rattle.std.proofs.lemmas.Bool.{eqb-true, eqb-false}
 use Rattle.pdl_semantics.specs.Flat.{Pipe, Stage, Branch, Next, Ends, Goes, Forks, Op, Bind, CombRead, DelayedRead, Guard, Stmt, takes_branch, all_hold}
 use Rattle.pdl_semantics.specs.Stages.{onpath, in_stage, last_stage, stage_at, goes_to}
 use Rattle.pdl_semantics.specs.Sound.{stages_before, stages_from, is_fetch}
-use Rattle.pdl_theory_facts.specs.Scans.{none_of, binds_var}
-use Rattle.pdl_theory_facts.proofs.Nested.{came_from_way, visits_same, visits_fork, trunk_within}
+use Rattle.pdl_theory_turns.specs.Scans.{none_of, binds_var}
+use Rattle.pdl_theory_turns.proofs.Nested.{came_from_way, visits_same, visits_fork, trunk_within}
 use Rattle.pdl_theory_simulation.proofs.FlowFacts.{Within, Flows, FlowRules, AllOf, DefinedBy, SameBut, binds_guard, visits_stage, on_side, next_of, stage_or, sets, is_fetch_of}
 use Rattle.pdl_theory_turns.proofs.Paths.{stage_path, none_onpath}
 

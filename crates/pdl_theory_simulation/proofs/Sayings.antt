@@ -7,12 +7,12 @@ use Rattle.pdl_semantics.specs.Moves.{block_ready}
 use Rattle.pdl_semantics.specs.Moves
 use Rattle.pdl_semantics.specs.Promises.{DifferInAdvice}
 use Rattle.pdl_semantics.specs.Sound.{is_spec_call}
-use Rattle.pdl_theory_derived.specs.Derived.{Work, around, port_free}
-use Rattle.pdl_theory_derived.specs.Derived
-use Rattle.pdl_theory_derived.proofs.Writes.{and_left, and_right}
-use Rattle.pdl_theory_derived.proofs.Deeds.{AllGuesses, told_all}
-use Rattle.pdl_theory_facts.specs.Scans.{none_of}
-use Rattle.pdl_theory_facts.specs.GuessScans.{is_update}
+use Rattle.pdl_theory_turns.specs.Derived.{Work, around, port_free}
+use Rattle.pdl_theory_turns.specs.Derived
+use Rattle.pdl_theory_turns.proofs.Writes.{and_left, and_right}
+use Rattle.pdl_theory_turns.proofs.Deeds.{AllGuesses, told_all}
+use Rattle.pdl_theory_turns.specs.Scans.{none_of}
+use Rattle.pdl_theory_turns.specs.GuessScans.{is_update}
 use Rattle.pdl_theory_turns.proofs.Guesses.{unfailed}
 use Rattle.pdl_theory_simulation.proofs.FlowFacts.{Flows}
 use Rattle.pdl_theory_simulation.proofs.Stretches.{start_of, has_made, has_done, calls_here, once_here}

@@ -7,11 +7,11 @@ use Rattle.pdl_semantics.specs.Machine.{Kept, State, Pending, with_answers, Deed
 use Rattle.pdl_semantics.specs.Cycle.{for_stages}
 use Rattle.pdl_semantics.specs.Machine
 use Rattle.pdl_semantics.specs.Moves
-use Rattle.pdl_theory_derived.specs.Derived.{work_of_stage, Work, latest, latest_in, pending, count_in, befores, around}
-use Rattle.pdl_theory_derived.specs.Derived
-use Rattle.pdl_theory_derived.proofs.Slots.{rev, stages_same}
+use Rattle.pdl_theory_turns.specs.Derived.{work_of_stage, Work, latest, latest_in, pending, count_in, befores, around}
+use Rattle.pdl_theory_turns.specs.Derived
+use Rattle.pdl_theory_turns.proofs.Slots.{rev, stages_same}
 use Rattle.pdl_theory_simulation.proofs.Stretches.{Behind}
-use Rattle.pdl_theory_derived.proofs.Lists.{pend, youngest_append, youngest_older, length_pend}
+use Rattle.pdl_theory_turns.proofs.Lists.{pend, youngest_append, youngest_older, length_pend}
 use Rattle.pdl_word.specs.Each.{Each}
 
 -- a live thread of the derived machine, its number, the values with which it came into its stage, and the answers and the advised values that the stated machine keeps for it

@@ -6,18 +6,18 @@ use Rattle.pdl_semantics.specs.Stages.{onpath, is_reserve, is_release}
 use Rattle.pdl_semantics.specs.Machine.{same_args, Pending, HeldLocation, held_after, held_before}
 use Rattle.pdl_semantics.specs.Sound.{stages_before, is_call}
 use Rattle.pdl_semantics.specs.Machine
-use Rattle.pdl_theory_derived.specs.Derived.{Entry, Work, Around, work_after, do_all, said}
-use Rattle.pdl_theory_facts.specs.Scans.{Phase, Fresh, after_write, after_reserve, after_release, next_phase, phase_all, is_over, none_of, all_at, is_fixed, called}
+use Rattle.pdl_theory_turns.specs.Derived.{Entry, Work, Around, work_after, do_all, said}
+use Rattle.pdl_theory_turns.specs.Scans.{Phase, Fresh, after_write, after_reserve, after_release, next_phase, phase_all, is_over, none_of, all_at, is_fixed, called}
 use Rattle.pdl_theory_simulation.proofs.FlowFacts.{use_ok, uses_ok, calls_ok}
-use Rattle.pdl_theory_derived.proofs.Writes.{and_left, and_right}
-use Rattle.pdl_theory_derived.proofs.Entries.{entries_of, entry, write_of, Open, Full, waiting, known, open_vars, full_vars, told}
-use Rattle.pdl_theory_derived.specs.Alone.{is_nil, is_among, but_last}
-use Rattle.pdl_theory_facts.proofs.Apart.{Apart, apart_fresh}
+use Rattle.pdl_theory_turns.proofs.Writes.{and_left, and_right}
+use Rattle.pdl_theory_turns.proofs.Entries.{entries_of, entry, write_of, Open, Full, waiting, known, open_vars, full_vars, told}
+use Rattle.pdl_theory_turns.specs.Alone.{is_nil, is_among, but_last}
+use Rattle.pdl_theory_turns.proofs.Apart.{Apart, apart_fresh}
 use Rattle.pdl_theory_turns.proofs.Phases.{nil_of, no_fulls}
-use Rattle.pdl_theory_derived.proofs.Stages.{step}
+use Rattle.pdl_theory_turns.proofs.Stages.{step}
 use Rattle.pdl_theory_turns.proofs.Paths.{Fixed, all_stays, taken_stays}
-use Rattle.pdl_theory_derived.proofs.Deeds.{places, places_without, places_filled}
-use Rattle.pdl_theory_derived.proofs.Lists.{own, pend}
+use Rattle.pdl_theory_turns.proofs.Deeds.{places, places_without, places_filled}
+use Rattle.pdl_theory_turns.proofs.Lists.{own, pend}
 use Rattle.pdl_theory_turns.proofs.Steps.{Staged, unnamed, pendings, unnamed_append, pendings_append, pend_append, is_used, AllUsed}
 use Rattle.pdl_theory_turns.proofs.OwnEntries.{pend_own, no_opens}
 

@@ -6,10 +6,10 @@ use Rattle.pdl_semantics.specs.Stages.{sides_of}
 use Rattle.pdl_semantics.specs.Machine.{NoRequest, Pending}
 use Rattle.pdl_semantics.specs.Cycle.{for_mems, for_stages}
 use Rattle.pdl_semantics.specs.Cycle
-use Rattle.pdl_theory_derived.specs.Derived.{asked_at}
-use Rattle.pdl_theory_derived.specs.Derived
+use Rattle.pdl_theory_turns.specs.Derived.{asked_at}
+use Rattle.pdl_theory_turns.specs.Derived
 use Rattle.pdl_theory_simulation.proofs.FlowFacts.{Flows}
-use Rattle.pdl_theory_derived.proofs.Slots.{stages_same}
+use Rattle.pdl_theory_turns.proofs.Slots.{stages_same}
 use Rattle.pdl_theory_simulation.proofs.PerMemory.{mems_same}
 use Rattle.pdl_theory_simulation.proofs.Stretches.{keeps_fresh}
 use Rattle.pdl_theory_simulation.proofs.Seats.{Live}

@@ -4,9 +4,9 @@ use Rattle.pdl_semantics.specs.Flat.{Pipe}
 use Rattle.pdl_semantics.specs.Machine.{State, lock_of, fork_of, request_of}
 use Rattle.pdl_semantics.specs.Cycle.{for_mems, for_stages}
 use Rattle.pdl_semantics.specs.Promises.{DifferInAdvice}
-use Rattle.pdl_theory_derived.specs.Derived
-use Rattle.pdl_theory_derived.specs.Derived.{asked_at}
-use Rattle.pdl_theory_derived.proofs.Slots.{rev}
+use Rattle.pdl_theory_turns.specs.Derived
+use Rattle.pdl_theory_turns.specs.Derived.{asked_at}
+use Rattle.pdl_theory_turns.proofs.Slots.{rev}
 use Rattle.pdl_theory_simulation.proofs.Stretches.{has_made}
 use Rattle.pdl_theory_simulation.proofs.Seats.{Live, find, threads_of, Ordered, Falls, pends}
 use Rattle.pdl_theory_simulation.proofs.Choices.{Matched, Seated}

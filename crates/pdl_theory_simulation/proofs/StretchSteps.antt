@@ -8,13 +8,13 @@ use Rattle.pdl_semantics.specs.Machine.{Ask, Awaited, same_args, Pending, Blocke
 use Rattle.pdl_semantics.specs.Cycle.{awaited_of}
 use Rattle.pdl_semantics.specs.Sound.{is_call, is_delayed_read}
 use Rattle.pdl_semantics.specs.Machine
-use Rattle.pdl_theory_derived.specs.Derived.{Entry, Work, Around, work_after, do_all, said}
-use Rattle.pdl_theory_facts.specs.Scans.{Phase, next_phase, phase_all, none_of, called}
+use Rattle.pdl_theory_turns.specs.Derived.{Entry, Work, Around, work_after, do_all, said}
+use Rattle.pdl_theory_turns.specs.Scans.{Phase, next_phase, phase_all, none_of, called}
 use Rattle.pdl_theory_simulation.proofs.FlowFacts.{SameBut, sets, is_fetch_of, use_ok, uses_ok, call_ok, calls_ok}
-use Rattle.pdl_theory_derived.proofs.Writes.{and_left, and_right}
-use Rattle.pdl_theory_derived.proofs.Stages.{step}
+use Rattle.pdl_theory_turns.proofs.Writes.{and_left, and_right}
+use Rattle.pdl_theory_turns.proofs.Stages.{step}
 use Rattle.pdl_theory_turns.proofs.Paths.{Fixed}
-use Rattle.pdl_theory_derived.proofs.Deeds.{places, places_has, work_of, AllFit, Loosely, loose_step}
+use Rattle.pdl_theory_turns.proofs.Deeds.{places, places_has, work_of, AllFit, Loosely, loose_step}
 use Rattle.pdl_theory_turns.proofs.Steps.{Here, step_write, step_reserve, step_release}
 
 -- what statements do to the pending writes of m

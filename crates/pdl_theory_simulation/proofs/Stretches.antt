@@ -6,15 +6,15 @@ use Rattle.pdl_semantics.specs.Stages.{onpath, in_stage, stage_at, goes_to, is_r
 use Rattle.pdl_semantics.specs.Machine.{Ask, Awaited, is_answered, Blocked, Deeds, held_before, deeds_after_all, Kept}
 use Rattle.pdl_semantics.specs.Cycle.{awaited_of, releases_of}
 use Rattle.pdl_semantics.specs.Sound.{stages_before, stages_from, is_delayed_read}
-use Rattle.pdl_theory_derived.specs.Derived.{Work, Around, work_of_stage, still, with_answers, answered_thread, Hint}
-use Rattle.pdl_theory_derived.specs.Derived
-use Rattle.pdl_theory_facts.specs.Scans.{Fresh, phase_all, is_over, none_of, called}
-use Rattle.pdl_theory_facts.proofs.Nested.{within_all, within_home, within_more}
+use Rattle.pdl_theory_turns.specs.Derived.{Work, Around, work_of_stage, still, with_answers, answered_thread, Hint}
+use Rattle.pdl_theory_turns.specs.Derived
+use Rattle.pdl_theory_turns.specs.Scans.{Fresh, phase_all, is_over, none_of, called}
+use Rattle.pdl_theory_turns.proofs.Nested.{within_all, within_home, within_more}
 use Rattle.pdl_theory_simulation.proofs.FlowFacts.{Within, Trunk, Below, Way, Flows, uses_ok, calls_ok, visits_stage, next_of, stage_or, comes_by, Leads, Ways}
-use Rattle.pdl_theory_derived.proofs.Entries.{entries_of}
+use Rattle.pdl_theory_turns.proofs.Entries.{entries_of}
 use Rattle.pdl_theory_turns.proofs.Paths.{Fixed, none_onpath}
-use Rattle.pdl_theory_derived.proofs.Deeds.{places, AllFit, loose_start}
-use Rattle.pdl_theory_derived.proofs.Lists.{pend}
+use Rattle.pdl_theory_turns.proofs.Deeds.{places, AllFit, loose_start}
+use Rattle.pdl_theory_turns.proofs.Lists.{pend}
 use Rattle.pdl_theory_turns.proofs.Steps.{Here}
 use Rattle.pdl_theory_turns.proofs.OwnEntries.{Worked, worked, quiet_releases}
 use Rattle.pdl_theory_simulation.proofs.Shapes.{Shape, shape_over, shape_start, shape_end, uses_front, uses_back, called_append, calls_front, calls_back, none_before, none_till, fixed_to, stays_fresh, over_early, held_ops, held_append, held_path, held_work, shape_fresh, shape_none}
@@ -22,7 +22,7 @@ use Rattle.pdl_theory_turns.proofs.TurnPath.{phase_append}
 use Rattle.pdl_theory_turns.proofs.OfStage.{fixed_stage}
 use Rattle.pdl_theory_turns.proofs.Turn.{none_from, none_in_stage}
 use Rattle.pdl_theory_simulation.proofs.StretchSteps.{steps_all, set_stays, only_sets, awaits_var, only_asks, AsksFrom, asks_from, Childed, made_all}
-use Rattle.pdl_theory_facts.specs.GuessScans.{once}
+use Rattle.pdl_theory_turns.specs.GuessScans.{once}
 use Rattle.pdl_theory_simulation.proofs.Onces.{has_any, any_append, once_front, once_back}
 
 -- THREADS

@@ -5,9 +5,9 @@ use Rattle.pdl_semantics.specs.Flat.{Pipe, Op, Verify, SpecBarrier, Stmt, all_ho
 use Rattle.pdl_semantics.specs.Stages.{stage_at, sides_of}
 use Rattle.pdl_semantics.specs.Machine.{Deeds, deeds_after_all}
 use Rattle.pdl_semantics.specs.Machine
-use Rattle.pdl_theory_facts.specs.Scans.{none_of}
+use Rattle.pdl_theory_turns.specs.Scans.{none_of}
 use Rattle.pdl_theory_simulation.proofs.FlowFacts.{trunk_only}
-use Rattle.pdl_theory_derived.proofs.Writes.{and_left, and_right}
+use Rattle.pdl_theory_turns.proofs.Writes.{and_left, and_right}
 use Rattle.pdl_theory_simulation.proofs.Stretches.{Behind, less_home}
 use Rattle.pdl_theory_simulation.proofs.Seats.{Live, seat, find, each_map, Ordered, Rises}
 use Rattle.pdl_word.proofs.Bools.{same_bools}

@@ -9,11 +9,11 @@ use Rattle.pdl_semantics.specs.Cycle.{next_thread, or_then, is_kept, if_kept}
 use Rattle.pdl_semantics.specs.Cycle
 use Rattle.pdl_semantics.specs.Machine
 use Rattle.pdl_semantics.specs.Promises.{DifferInAdvice}
-use Rattle.pdl_theory_derived.specs.Derived.{around}
-use Rattle.pdl_theory_derived.specs.Derived
+use Rattle.pdl_theory_turns.specs.Derived.{around}
+use Rattle.pdl_theory_turns.specs.Derived
 use Rattle.pdl_theory_simulation.proofs.FlowFacts.{Home, Within, Flows, Ways, Leads, stage_or, next_of}
-use Rattle.pdl_theory_derived.proofs.Writes.{and_left, and_right}
-use Rattle.pdl_theory_facts.proofs.Nested.{same_head, same_tail, within_home, Came, came_way}
+use Rattle.pdl_theory_turns.proofs.Writes.{and_left, and_right}
+use Rattle.pdl_theory_turns.proofs.Nested.{same_head, same_tail, within_home, Came, came_way}
 use Rattle.pdl_theory_simulation.proofs.Stretches.{Behind, left_trunk, less_home, fork_left, Keeps, has_made, keeps_next, keeps_fresh}
 use Rattle.pdl_theory_simulation.proofs.Seats.{Live, seat, find, each_map, Ordered, Falls, falls_up, dacts, lacts, did, now_of, work_of_live, advised}
 use Rattle.pdl_theory_simulation.proofs.Choices.{Known, AllKnown, keeps_now, fit_all}

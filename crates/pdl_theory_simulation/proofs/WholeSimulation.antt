@@ -11,17 +11,17 @@ use Rattle.pdl_semantics.specs.Promises.{row, wrote, DifferInAdvice}
 use Rattle.pdl_semantics.specs.Cycle
 use Rattle.pdl_semantics.specs.Machine
 use Rattle.pdl_semantics.specs.Moves
-use Rattle.pdl_theory_derived.specs.Derived.{Work, commits_of, asks_of, asked_at, next_ask, next_asks, find_ask, stage_flags, still}
-use Rattle.pdl_theory_derived.specs.Derived
-use Rattle.pdl_theory_facts.specs.Scans.{none_of}
-use Rattle.pdl_theory_facts.proofs.Nested.{not_inside}
+use Rattle.pdl_theory_turns.specs.Derived.{Work, commits_of, asks_of, asked_at, next_ask, next_asks, find_ask, stage_flags, still}
+use Rattle.pdl_theory_turns.specs.Derived
+use Rattle.pdl_theory_turns.specs.Scans.{none_of}
+use Rattle.pdl_theory_turns.proofs.Nested.{not_inside}
 use Rattle.pdl_theory_simulation.proofs.FlowFacts.{Flows}
-use Rattle.pdl_theory_derived.specs.Simulation.{SameTurn}
-use Rattle.pdl_theory_derived.proofs.Writes.{row_committed}
-use Rattle.pdl_theory_derived.proofs.Slots.{rev, stages_same}
+use Rattle.pdl_theory_turns.specs.Simulation.{SameTurn}
+use Rattle.pdl_theory_turns.proofs.Writes.{row_committed}
+use Rattle.pdl_theory_turns.proofs.Slots.{rev, stages_same}
 use Rattle.pdl_theory_simulation.proofs.PerMemory.{at_mem, past_mems, mems_same, row_commits, past_commits, mems_range, asks_mems}
 use Rattle.pdl_theory_simulation.proofs.LockRemovals.{Out}
-use Rattle.pdl_theory_derived.proofs.Lists.{pend}
+use Rattle.pdl_theory_turns.proofs.Lists.{pend}
 use Rattle.pdl_theory_turns.proofs.OwnEntries.{pend_own}
 use Rattle.pdl_theory_simulation.proofs.Stretches.{Keeps, Fetched, AllFetched, unknown}
 use Rattle.pdl_theory_simulation.proofs.StretchSteps.{AsksFrom}

@@ -1,18 +1,18 @@
 -- Sound state's points on all live threads, of every state that a run comes to.
 use Rattle.std.proofs.Common.{◌≡◌, refl, ap, ap₂, ◌∙◌, subst, ℕ, ◌<◌, Bool, true, false, ◌&&◌, ◌||◌, not, List, [], ◌∷◌, Option, Some, None, ◌==◌, nat_lt, ltb-true, lt-ltb, le_of_lt}
 use Rattle.std.proofs.lemmas.Bool.{or_right}
-use Rattle.pdl_theory_facts.specs.Graphs.{Trunk}
+use Rattle.pdl_theory_turns.specs.Graphs.{Trunk}
 use Rattle.pdl_semantics.specs.Flat.{Pipe, Stmt, list_all}
 use Rattle.pdl_semantics.specs.Stages.{list_any, verify_stage}
 use Rattle.pdl_semantics.specs.Machine.{State, Request, NoRequest, Owned, Orphan, Pending, lock_of, request_of}
 use Rattle.pdl_semantics.specs.Sound.{live, all_pairs, all_from, in_order, are_linked, certain_after, asks_right, is_barrier, stays_ready, on_path, has_done, past_stmts}
 use Rattle.pdl_semantics.specs.Sound
-use Rattle.pdl_theory_derived.specs.Derived.{latest}
-use Rattle.pdl_theory_derived.specs.Derived
-use Rattle.pdl_theory_facts.specs.Facts.{Sound}
+use Rattle.pdl_theory_turns.specs.Derived.{latest}
+use Rattle.pdl_theory_turns.specs.Derived
+use Rattle.pdl_theory_turns.specs.Facts.{Sound}
 use Rattle.pdl_theory_turns.proofs.CourseOf
 use Rattle.pdl_theory_simulation.proofs.AcceptedFacts.{sound_flows}
-use Rattle.pdl_theory_derived.proofs.Lists.{pend}
+use Rattle.pdl_theory_turns.proofs.Lists.{pend}
 use Rattle.pdl_theory_simulation.proofs.Stretches.{Behind, on_way, left_trunk}
 use Rattle.pdl_theory_simulation.proofs.Seats.{Live, each_map, Ordered, Falls, falls_each, pends, befores_are}
 use Rattle.pdl_theory_simulation.proofs.Choices.{AllKnown, Seated, Matched}

@@ -5,13 +5,13 @@ use Rattle.pdl_semantics.specs.Stages.{verify_stage, mem_at, plain_mem}
 use Rattle.pdl_semantics.specs.Machine.{State, request_of, lock_of}
 use Rattle.pdl_semantics.specs.Cycle.{first, state_after}
 use Rattle.pdl_semantics.specs.Sound.{live, all_pairs, all_from, in_order, are_linked, certain_after, asks_right, has_owner, stays_ready, past_stmts, on_path}
-use Rattle.pdl_theory_derived.specs.Derived
-use Rattle.pdl_theory_derived.specs.Simulation.{hints_of}
-use Rattle.pdl_theory_facts.specs.Facts.{Sound}
+use Rattle.pdl_theory_turns.specs.Derived
+use Rattle.pdl_theory_turns.specs.Simulation.{hints_of}
+use Rattle.pdl_theory_turns.specs.Facts.{Sound}
 use Rattle.pdl_theory_turns.proofs.CourseOf.{course}
-use Rattle.pdl_theory_refinement.proofs.Follows
-use Rattle.pdl_theory_refinement.proofs.Spots.{Spot, seats, is_nil}
-use Rattle.pdl_theory_derived.proofs.Slots.{rev}
+use Rattle.pdl_theory.proofs.Follows
+use Rattle.pdl_theory.proofs.Spots.{Spot, seats, is_nil}
+use Rattle.pdl_theory_turns.proofs.Slots.{rev}
 use Rattle.pdl_theory_simulation.proofs.Seats.{threads_of}
 use Rattle.pdl_semantics.specs.Machine.{same_args}
 use Rattle.pdl_semantics.specs.Sound
@@ -19,7 +19,7 @@ use Rattle.pdl_semantics.specs.Cycle
 use Rattle.pdl_semantics.specs.Sequential.{after_turns, writes_from, seqwrites}
 use Rattle.pdl_semantics.specs.Sound.{Follower, followers, followers_of, strays, strays_of, follows_values, pending_right, right_entries, released_by, has_released, still_looks, all_below, arrays_right, is_sound}
 use Rattle.pdl_semantics.specs.Flat.{of_mem, Commit}
-use Rattle.pdl_theory_derived.proofs.Writes.{row_committed}
+use Rattle.pdl_theory_turns.proofs.Writes.{row_committed}
 use Rattle.pdl_theory_simulation.proofs.AcceptedFacts.{sound_flows}
 use Rattle.pdl_theory_simulation.proofs.CarriedTheorems.{ended_same}
 use Rattle.pdl_theory_simulation.proofs.Foretold.{run_same}

@@ -7,8 +7,8 @@ use Rattle.pdl_semantics.specs.Stages.{list_any, onpath}
 use Rattle.pdl_semantics.specs.Machine.{Ask, Awaited, Kept, same_args}
 use Rattle.pdl_semantics.specs.Cycle.{awaited_of}
 use Rattle.pdl_semantics.specs.Sound.{is_fetch}
-use Rattle.pdl_theory_derived.specs.Derived.{Work, Around, work_after, do_all, said}
-use Rattle.pdl_theory_derived.proofs.Stages.{step}
+use Rattle.pdl_theory_turns.specs.Derived.{Work, Around, work_after, do_all, said}
+use Rattle.pdl_theory_turns.proofs.Stages.{step}
 use Rattle.pdl_theory_turns.proofs.Paths.{Fixed}
 use Rattle.pdl_theory_states.proofs.Trails.{AllStmts, stmts_map}
 

@@ -13,29 +13,29 @@ use Rattle.pdl_semantics.specs.Promises.{wrote, row}
 use Rattle.pdl_semantics.specs.Sound.{Follower, followers_of, guessed_wrong, has_done, is_spec_call, is_write, once_answered, awaited_words, request_address, has_asked, entries_by, writes_done, right_entries, turn_writes, turn_so_far}
 use Rattle.pdl_semantics.specs.Sound
 use Rattle.pdl_semantics.specs.Promises.{DifferInAdvice}
-use Rattle.pdl_theory_derived.specs.Derived.{asked_at}
-use Rattle.pdl_theory_derived.specs.Derived
-use Rattle.pdl_theory_derived.specs.Alone.{World, so_far}
-use Rattle.pdl_theory_facts.specs.Scans.{is_plain}
-use Rattle.pdl_theory_facts.specs.Facts.{Sound, at_once}
-use Rattle.pdl_theory_derived.proofs.Writes.{wrote_append}
+use Rattle.pdl_theory_turns.specs.Derived.{asked_at}
+use Rattle.pdl_theory_turns.specs.Derived
+use Rattle.pdl_theory_turns.specs.Alone.{World, so_far}
+use Rattle.pdl_theory_turns.specs.Scans.{is_plain}
+use Rattle.pdl_theory_turns.specs.Facts.{Sound, at_once}
+use Rattle.pdl_theory_turns.proofs.Writes.{wrote_append}
 use Rattle.pdl_theory_turns.proofs.TurnPath
-use Rattle.pdl_theory_refinement.proofs.Spots
-use Rattle.pdl_theory_derived.proofs.Slots.{rev}
+use Rattle.pdl_theory.proofs.Spots
+use Rattle.pdl_theory_turns.proofs.Slots.{rev}
 use Rattle.pdl_theory_turns.proofs.Guesses.{same_args_refl}
 use Rattle.pdl_theory_turns.proofs.Marks.{seen, strips, ready_value}
 use Rattle.pdl_theory_turns.proofs.UndoneWrites.{marks}
 use Rattle.pdl_theory_turns.proofs.TurnFacts.{right_guess}
-use Rattle.pdl_theory_derived.proofs.DelayedReads.{AllAsks, caught}
+use Rattle.pdl_theory_turns.proofs.DelayedReads.{AllAsks, caught}
 use Rattle.pdl_theory_turns.proofs.StageFacts.{caught_other}
 use Rattle.pdl_theory_turns.proofs.CourseOf.{course}
 use Rattle.pdl_theory_turns.proofs.Lives.{Writes, Marks, RowsAt}
-use Rattle.pdl_theory_refinement.proofs.Cycles.{rows_next}
-use Rattle.pdl_theory_refinement.proofs.Spots.{Spot, with_hint, seats, Sure, Here, Standing, Tail, Last}
+use Rattle.pdl_theory.proofs.Cycles.{rows_next}
+use Rattle.pdl_theory.proofs.Spots.{Spot, with_hint, seats, Sure, Here, Standing, Tail, Last}
 use Rattle.pdl_semantics.proofs.Readiness.{exact_none}
 use Rattle.pdl_theory_simulation.proofs.AcceptedFacts.{sound_flows}
-use Rattle.pdl_theory_derived.proofs.Entries.{entries_of}
-use Rattle.pdl_theory_derived.proofs.Lists.{pend}
+use Rattle.pdl_theory_turns.proofs.Entries.{entries_of}
+use Rattle.pdl_theory_turns.proofs.Lists.{pend}
 use Rattle.pdl_theory_turns.proofs.OwnEntries.{pend_own}
 use Rattle.pdl_theory_simulation.proofs.Stretches.{on_way, early, Fetched, AllFetched}
 use Rattle.pdl_theory_simulation.proofs.StretchSteps.{awaits_var}

@@ -6,10 +6,10 @@ use Rattle.pdl_semantics.specs.Flat.{list_all, Op, Bind, CombRead, SpecCall, Ver
 use Rattle.pdl_semantics.specs.Stages.{onpath}
 use Rattle.pdl_semantics.specs.Machine.{Ask, Kept, Blocked, same_args, with_kept, Deeds, deeds_after_all, all_values, checked_args}
 use Rattle.pdl_semantics.specs.Machine
-use Rattle.pdl_theory_derived.specs.Derived.{Work, Around, work_after, Hint}
-use Rattle.pdl_theory_derived.proofs.Deeds.{AllFit, Loosely, loose_step, Guesses, AllGuesses}
-use Rattle.pdl_theory_derived.proofs.Writes.{and_left, and_right}
-use Rattle.pdl_theory_facts.specs.Facts.{uses_any}
+use Rattle.pdl_theory_turns.specs.Derived.{Work, Around, work_after, Hint}
+use Rattle.pdl_theory_turns.proofs.Deeds.{AllFit, Loosely, loose_step, Guesses, AllGuesses}
+use Rattle.pdl_theory_turns.proofs.Writes.{and_left, and_right}
+use Rattle.pdl_theory_turns.specs.Facts.{uses_any}
 use Rattle.pdl_theory_turns.proofs.Paths.{Fixed}
 use Rattle.pdl_semantics.proofs.Facts.{kept_append}
 use Rattle.pdl_theory_states.specs.Strict.{binds_used, keeps_guess, all_keep_guess}

@@ -4,12 +4,12 @@ use Rattle.pdl_semantics.specs.Flat.{Pipe}
 use Rattle.pdl_semantics.specs.Machine.{State, Pending, HeldLocation, lock_of, same_args}
 use Rattle.pdl_semantics.specs.Sound.{live, all_from, held_of, holders, owners, held_places}
 use Rattle.pdl_semantics.specs.Sound
-use Rattle.pdl_theory_derived.specs.Derived.{Entry}
-use Rattle.pdl_theory_derived.specs.Derived
-use Rattle.pdl_theory_facts.specs.Facts.{Sound}
+use Rattle.pdl_theory_turns.specs.Derived.{Entry}
+use Rattle.pdl_theory_turns.specs.Derived
+use Rattle.pdl_theory_turns.specs.Facts.{Sound}
 use Rattle.pdl_theory_turns.proofs.Guesses.{same_args_refl}
-use Rattle.pdl_theory_derived.proofs.Deeds.{places}
-use Rattle.pdl_theory_derived.proofs.Lists.{own, pend}
+use Rattle.pdl_theory_turns.proofs.Deeds.{places}
+use Rattle.pdl_theory_turns.proofs.Lists.{own, pend}
 use Rattle.pdl_theory_simulation.proofs.Seats.{Live, each_map, pends}
 use Rattle.pdl_theory_states.proofs.OldestFirst.{told, oldest_first}
 use Rattle.pdl_theory_states.proofs.Order.{from_all}

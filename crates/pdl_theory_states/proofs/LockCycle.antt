@@ -7,10 +7,10 @@ use Rattle.pdl_semantics.specs.Machine.{State, Pending, Reserved, reserves_of, w
 use Rattle.pdl_semantics.specs.Moves.{Act, movers}
 use Rattle.pdl_semantics.specs.Cycle.{new_entries, with_reserves}
 use Rattle.pdl_semantics.specs.Promises.{DifferInAdvice}
-use Rattle.pdl_theory_derived.specs.Derived
+use Rattle.pdl_theory_turns.specs.Derived
 use Rattle.pdl_theory_simulation.proofs.FlowFacts.{Flows}
 use Rattle.pdl_theory_turns.proofs.Turn.{none_in_stage}
-use Rattle.pdl_theory_derived.proofs.Lists.{pend, Reserveless, appended_back}
+use Rattle.pdl_theory_turns.proofs.Lists.{pend, Reserveless, appended_back}
 use Rattle.pdl_theory_turns.proofs.OwnEntries.{quiet_reserves}
 use Rattle.pdl_theory_simulation.proofs.Stretches.{Behind, left_trunk}
 use Rattle.pdl_theory_simulation.proofs.Seats.{Live, each_map, Falls, falls_each, Ordered, pends, lact, lacts, did, deeds_of}

@@ -6,9 +6,9 @@ use Rattle.pdl_semantics.specs.Machine.{State, Pending, Written}
 use Rattle.pdl_semantics.specs.Moves.{Act, movers}
 use Rattle.pdl_semantics.specs.Cycle.{with_reserves, with_value_of, with_writes_of, with_all_writes, all_releases, releases_of}
 use Rattle.pdl_semantics.specs.Promises.{DifferInAdvice}
-use Rattle.pdl_theory_derived.specs.Derived
+use Rattle.pdl_theory_turns.specs.Derived
 use Rattle.pdl_theory_simulation.proofs.FlowFacts.{Flows}
-use Rattle.pdl_theory_derived.proofs.Lists.{pend}
+use Rattle.pdl_theory_turns.proofs.Lists.{pend}
 use Rattle.pdl_theory_simulation.proofs.Stretches.{Behind, left_trunk}
 use Rattle.pdl_theory_simulation.proofs.Seats.{Live, Falls, Ordered, pends, lact, lacts, did, deeds_of}
 use Rattle.pdl_theory_simulation.proofs.ThreadFacts.{Pair, pairs, EachPair, pair_map, pairs_each}

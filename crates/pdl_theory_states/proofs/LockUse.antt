@@ -5,9 +5,9 @@ use Rattle.pdl_semantics.specs.Stages.{reserve_stage}
 use Rattle.pdl_semantics.specs.Machine.{State, lock_of}
 use Rattle.pdl_semantics.specs.Moves.{Act, all_acts, movers}
 use Rattle.pdl_semantics.specs.Cycle.{first, state_after, with_reserves, all_releases}
-use Rattle.pdl_theory_derived.specs.Derived
-use Rattle.pdl_theory_derived.specs.Simulation.{hints_of}
-use Rattle.pdl_theory_facts.specs.Facts.{Sound}
+use Rattle.pdl_theory_turns.specs.Derived
+use Rattle.pdl_theory_turns.specs.Simulation.{hints_of}
+use Rattle.pdl_theory_turns.specs.Facts.{Sound}
 use Rattle.pdl_theory_simulation.proofs.AcceptedFacts.{sound_flows}
 use Rattle.pdl_theory_simulation.proofs.Seats.{Live, pends, lact, lacts}
 use Rattle.pdl_theory_simulation.proofs.ThreadFacts.{Pair, pairs, EachPair, pair_map, sorted, sorted_each}

@@ -7,14 +7,14 @@ use Rattle.pdl_semantics.specs.Locks.{Latest, Nothing, as_latest}
 use Rattle.pdl_semantics.specs.Machine.{State, same_args}
 use Rattle.pdl_semantics.proofs.Readiness.{Calm, calm_nothing, calm_value}
 use Rattle.pdl_semantics.specs.Promises.{DifferInAdvice}
-use Rattle.pdl_theory_derived.specs.Derived.{Entry, Work, Around, work_after, do_all, with_entry_value, latest_in, latest, around, said}
-use Rattle.pdl_theory_derived.specs.Derived
-use Rattle.pdl_theory_facts.specs.Scans.{none_of}
+use Rattle.pdl_theory_turns.specs.Derived.{Entry, Work, Around, work_after, do_all, with_entry_value, latest_in, latest, around, said}
+use Rattle.pdl_theory_turns.specs.Derived
+use Rattle.pdl_theory_turns.specs.Scans.{none_of}
 use Rattle.pdl_theory_simulation.proofs.FlowFacts.{Flows, stage_or}
-use Rattle.pdl_theory_derived.proofs.Writes.{and_left, and_right}
-use Rattle.pdl_theory_derived.proofs.Entries.{entries_of, filled_other, without_other, entries_of-filled}
+use Rattle.pdl_theory_turns.proofs.Writes.{and_left, and_right}
+use Rattle.pdl_theory_turns.proofs.Entries.{entries_of, filled_other, without_other, entries_of-filled}
 use Rattle.pdl_theory_turns.proofs.Marks.{latest_own}
-use Rattle.pdl_theory_derived.proofs.Stages.{step}
+use Rattle.pdl_theory_turns.proofs.Stages.{step}
 use Rattle.pdl_theory_turns.proofs.Turn.{none_in_stage}
 use Rattle.pdl_theory_simulation.proofs.Stretches.{Behind, late, start_of, stage_up, left_trunk}
 use Rattle.pdl_theory_simulation.proofs.Seats.{Live, threads_of, Ordered, dacts, did, now_of, work_of_live, advised}

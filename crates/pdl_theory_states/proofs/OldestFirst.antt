@@ -6,8 +6,8 @@ use Rattle.pdl_semantics.specs.Machine.{State}
 use Rattle.pdl_semantics.specs.Cycle.{for_stages}
 use Rattle.pdl_semantics.specs.Sound.{put_in, live_from, live, all_pairs}
 use Rattle.pdl_semantics.specs.Sound
-use Rattle.pdl_theory_derived.proofs.Writes.{and_left, and_right}
-use Rattle.pdl_theory_derived.proofs.Slots.{stages_same}
+use Rattle.pdl_theory_turns.proofs.Writes.{and_left, and_right}
+use Rattle.pdl_theory_turns.proofs.Slots.{stages_same}
 use Rattle.pdl_theory_simulation.proofs.Seats.{Live, seat, find, Ordered, Rises, Falls, falls_each, rises_hi, rises_from, find_none}
 use Rattle.pdl_theory_simulation.proofs.ThreadFacts.{Pair, place, sorted, lives_of, EachPair, sorted_each, pairs_each, find_sorted, rises_sorted}
 use Rattle.pdl_word.specs.Each.{Each}

@@ -6,7 +6,7 @@ use Rattle.pdl_semantics.specs.Stages.{list_any, stage_at, sides_of}
 use Rattle.pdl_semantics.specs.Sound.{all_from, other_branch, are_apart, sides_in, same_sides}
 use Rattle.pdl_semantics.specs.Sound
 use Rattle.pdl_theory_simulation.proofs.FlowFacts.{Home, Within, Trunk, Ways}
-use Rattle.pdl_theory_facts.proofs.Nested.{trunk_within, within_home, within_more, came_from_way}
+use Rattle.pdl_theory_turns.proofs.Nested.{trunk_within, within_home, within_more, came_from_way}
 use Rattle.pdl_theory_simulation.proofs.Stretches.{Behind, fork_left}
 use Rattle.pdl_theory_simulation.proofs.Seats.{Live}
 use Rattle.pdl_theory_simulation.proofs.ThreadFacts.{sides}

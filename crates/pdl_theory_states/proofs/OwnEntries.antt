@@ -3,9 +3,9 @@ use Rattle.std.proofs.Common.{◌≡◌, ◌≢◌, refl, ap, ap₂, ◌∙◌, 
 use Rattle.std.proofs.lemmas.Bool.{ne_eqb}
 use Rattle.pdl_semantics.specs.Flat.{Pipe}
 use Rattle.pdl_semantics.specs.Machine.{State, Pending, lock_of}
-use Rattle.pdl_theory_derived.specs.Derived.{Entry}
+use Rattle.pdl_theory_turns.specs.Derived.{Entry}
 use Rattle.pdl_semantics.specs.Sound.{entries_by}
-use Rattle.pdl_theory_derived.proofs.Lists.{own, pend}
+use Rattle.pdl_theory_turns.proofs.Lists.{own, pend}
 use Rattle.pdl_theory_simulation.proofs.Seats.{Live, Falls, pends}
 use Rattle.pdl_theory_states.proofs.ThreadHistory.{Local}
 use Rattle.pdl_theory_states.proofs.ThreadFacts.{Lasting, Along, Owns}

@@ -7,17 +7,17 @@ use Rattle.pdl_semantics.specs.Forms.{on_block}
 use Rattle.pdl_semantics.specs.Stages.{onpath, is_release}
 use Rattle.pdl_semantics.specs.Machine.{Ask, same_args}
 use Rattle.pdl_semantics.specs.Sound.{is_release_at, is_call}
-use Rattle.pdl_theory_derived.specs.Derived.{Entry, Work, Around, work_after, do_all, moved_up, without, with_entry_value, has_entry, said, Hint}
-use Rattle.pdl_theory_facts.specs.Facts.{uses_in, mentions_var, asks_for, silent_on, unseen_op, is_unseen}
-use Rattle.pdl_theory_facts.specs.Scans.{is_dead}
-use Rattle.pdl_theory_derived.proofs.Writes.{and_left, and_right}
+use Rattle.pdl_theory_turns.specs.Derived.{Entry, Work, Around, work_after, do_all, moved_up, without, with_entry_value, has_entry, said, Hint}
+use Rattle.pdl_theory_turns.specs.Facts.{uses_in, mentions_var, asks_for, silent_on, unseen_op, is_unseen}
+use Rattle.pdl_theory_turns.specs.Scans.{is_dead}
+use Rattle.pdl_theory_turns.proofs.Writes.{and_left, and_right}
 use Rattle.pdl_theory_simulation.proofs.FlowFacts.{call_ok, calls_ok}
-use Rattle.pdl_theory_derived.proofs.Stages.{was_ready}
+use Rattle.pdl_theory_turns.proofs.Stages.{was_ready}
 use Rattle.pdl_theory_turns.proofs.Paths.{Fixed, dead_none}
-use Rattle.pdl_theory_derived.proofs.DelayedReads.{AllAsks, all_more, all_both, all_snoc}
+use Rattle.pdl_theory_turns.proofs.DelayedReads.{AllAsks, all_more, all_both, all_snoc}
 use Rattle.pdl_theory_states.specs.Strict.{bound_by, uses_own, is_mentioned, is_new, all_new}
 use Rattle.pdl_theory_turns.proofs.Surroundings.{has_filled, has_moved}
-use Rattle.pdl_theory_derived.proofs.Entries.{entries_of}
+use Rattle.pdl_theory_turns.proofs.Entries.{entries_of}
 use Rattle.pdl_theory_turns.proofs.Guesses.{same_args_eq}
 use Rattle.pdl_word.proofs.Bools.{untrue}
 use Rattle.pdl_theory_states.proofs.UnusedValues.{AllOps, AnyOp, ops_map, ops_both, any_both, onto, touches, value_agree, Done, done_agrees, done_guess, guess_past, guess_agrees, mention_touch, untouched, set_agrees, given, said_past}

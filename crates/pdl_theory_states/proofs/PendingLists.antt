@@ -3,8 +3,8 @@ use Rattle.std.proofs.Common.{◌≡◌, refl, ap, ◌∙◌, ℕ, suc, ◌+◌,
 use Rattle.pdl_semantics.specs.Machine.{Pending, Reserved, Written}
 use Rattle.pdl_semantics.specs.Moves.{Act}
 use Rattle.pdl_semantics.specs.Cycle.{new_entries, with_value_of, with_writes_of, with_all_writes}
-use Rattle.pdl_theory_derived.specs.Derived.{Entry}
-use Rattle.pdl_theory_derived.proofs.Lists.{own, pend}
+use Rattle.pdl_theory_turns.specs.Derived.{Entry}
+use Rattle.pdl_theory_turns.proofs.Lists.{own, pend}
 use Rattle.pdl_semantics.specs.PendingLists.{AreOrdered, count_older}
 use Rattle.pdl_semantics.proofs.Facts.{put_older}
 

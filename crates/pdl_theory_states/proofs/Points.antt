@@ -8,16 +8,16 @@ use Rattle.pdl_semantics.specs.Machine.{State, Awaited, Kept, Pending, HeldLocat
 use Rattle.pdl_semantics.specs.Moves.{block_ready}
 use Rattle.pdl_semantics.specs.Sound.{stages_before, are_linked, is_kept_or_awaited, asks_right, is_owner, is_release_at, stays_ready, on_path, is_done, right_place, is_fetch, held_places, has_done, is_call, guess_of, guess_after}
 use Rattle.pdl_semantics.specs.Sound
-use Rattle.pdl_theory_derived.specs.Derived.{Entry, has_entry, latest, awaits_mem, Hint}
-use Rattle.pdl_theory_facts.specs.Scans.{called, none_of}
+use Rattle.pdl_theory_turns.specs.Derived.{Entry, has_entry, latest, awaits_mem, Hint}
+use Rattle.pdl_theory_turns.specs.Scans.{called, none_of}
 use Rattle.pdl_theory_turns.proofs.Paths.{none_onpath}
 use Rattle.pdl_theory_simulation.proofs.Shapes.{none_till}
-use Rattle.pdl_theory_derived.proofs.Writes.{and_left, and_right}
-use Rattle.pdl_theory_facts.specs.Facts.{Sound}
+use Rattle.pdl_theory_turns.proofs.Writes.{and_left, and_right}
+use Rattle.pdl_theory_turns.specs.Facts.{Sound}
 use Rattle.pdl_theory_simulation.proofs.AcceptedFacts.{sound_flows}
 use Rattle.pdl_theory_turns.proofs.Guesses.{same_args_refl}
-use Rattle.pdl_theory_derived.proofs.Deeds.{places, places_has}
-use Rattle.pdl_theory_derived.proofs.Lists.{own, pend}
+use Rattle.pdl_theory_turns.proofs.Deeds.{places, places_has}
+use Rattle.pdl_theory_turns.proofs.Lists.{own, pend}
 use Rattle.pdl_theory_simulation.proofs.Stretches.{on_way, has_made, late}
 use Rattle.pdl_theory_simulation.proofs.Seats.{Live, threads_of, each_map}
 use Rattle.pdl_theory_simulation.proofs.Choices.{Seated}

@@ -5,13 +5,13 @@ use Rattle.pdl_semantics.specs.Stages.{onpath, in_stage, stage_at, goes_to}
 use Rattle.pdl_semantics.specs.Machine.{State}
 use Rattle.pdl_semantics.specs.Moves.{movers}
 use Rattle.pdl_semantics.specs.Cycle.{squasher, state_after, cycle, first}
-use Rattle.pdl_theory_derived.specs.Derived.{find_ask, fresh, around}
-use Rattle.pdl_theory_derived.specs.Derived
-use Rattle.pdl_theory_derived.specs.Simulation.{hints_of}
-use Rattle.pdl_theory_facts.specs.GuessScans.{Unmade, next_making, making_all, is_made}
-use Rattle.pdl_theory_facts.specs.Scans.{called}
-use Rattle.pdl_theory_facts.specs.Facts.{Sound}
-use Rattle.pdl_theory_derived.proofs.Writes.{and_left, and_right}
+use Rattle.pdl_theory_turns.specs.Derived.{find_ask, fresh, around}
+use Rattle.pdl_theory_turns.specs.Derived
+use Rattle.pdl_theory_turns.specs.Simulation.{hints_of}
+use Rattle.pdl_theory_turns.specs.GuessScans.{Unmade, next_making, making_all, is_made}
+use Rattle.pdl_theory_turns.specs.Scans.{called}
+use Rattle.pdl_theory_turns.specs.Facts.{Sound}
+use Rattle.pdl_theory_turns.proofs.Writes.{and_left, and_right}
 use Rattle.pdl_theory_simulation.proofs.FlowFacts.{call_ok, calls_ok, next_of, stage_or}
 use Rattle.pdl_theory_simulation.proofs.AcceptedFacts.{sound_flows}
 use Rattle.pdl_theory_turns.proofs.Looks.{path_looked}

@@ -7,20 +7,20 @@ use Rattle.pdl_semantics.specs.Stages.{list_any, onpath, is_release, commit_stag
 use Rattle.pdl_semantics.specs.Machine.{State, HeldLocation}
 use Rattle.pdl_semantics.specs.Sequential.{Run, thread}
 use Rattle.pdl_semantics.specs.Sound.{stages_before, stages_from, has_released}
-use Rattle.pdl_theory_derived.specs.Derived.{Entry, no_hint}
+use Rattle.pdl_theory_turns.specs.Derived.{Entry, no_hint}
 use Rattle.pdl_semantics.specs.Sound
-use Rattle.pdl_theory_derived.specs.Alone.{World, before, answered_op, is_nil, is_among, is_oldest, drop_var, but_last}
-use Rattle.pdl_theory_facts.specs.Scans.{Phase, Fresh, next_phase, phase_all, phase_ok, phases_ok, after_write, after_reserve, after_release, may_write, none_of, Scan, no_scan, has_location, scan_after, no_guards}
-use Rattle.pdl_theory_facts.specs.GuessScans.{is_barrier, is_sure, all_sure}
-use Rattle.pdl_theory_facts.specs.Facts.{Sound, looked_all, at_once}
-use Rattle.pdl_theory_facts.specs.Accepted.{along}
-use Rattle.pdl_theory_derived.proofs.Writes.{and_left, and_right}
+use Rattle.pdl_theory_turns.specs.Alone.{World, before, answered_op, is_nil, is_among, is_oldest, drop_var, but_last}
+use Rattle.pdl_theory_turns.specs.Scans.{Phase, Fresh, next_phase, phase_all, phase_ok, phases_ok, after_write, after_reserve, after_release, may_write, none_of, Scan, no_scan, has_location, scan_after, no_guards}
+use Rattle.pdl_theory_turns.specs.GuessScans.{is_barrier, is_sure, all_sure}
+use Rattle.pdl_theory_turns.specs.Facts.{Sound, looked_all, at_once}
+use Rattle.pdl_theory_turns.specs.Accepted.{along}
+use Rattle.pdl_theory_turns.proofs.Writes.{and_left, and_right}
 use Rattle.pdl_theory_simulation.proofs.FlowFacts.{uses_ok, use_ok}
 use Rattle.pdl_theory_simulation.proofs.AcceptedFacts.{sound_flows, phases_looked}
-use Rattle.pdl_theory_derived.proofs.Entries.{entries_of, Open, Full, waiting, known, open_vars, full_vars}
-use Rattle.pdl_theory_facts.proofs.Apart.{front_among, oldest_among}
+use Rattle.pdl_theory_turns.proofs.Entries.{entries_of, Open, Full, waiting, known, open_vars, full_vars}
+use Rattle.pdl_theory_turns.proofs.Apart.{front_among, oldest_among}
 use Rattle.pdl_theory_turns.proofs.Phases.{Tied}
-use Rattle.pdl_theory_derived.proofs.Deeds.{places}
+use Rattle.pdl_theory_turns.proofs.Deeds.{places}
 use Rattle.pdl_theory_turns.proofs.CertaintyScans.{some_barrier, sure_first}
 use Rattle.pdl_theory_turns.proofs.StrayPaths.{verify_looked}
 use Rattle.pdl_theory_simulation.proofs.Shapes.{Shape, uses_front, none_till}

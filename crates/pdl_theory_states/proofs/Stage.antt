@@ -6,14 +6,14 @@ use Rattle.pdl_semantics.specs.Stages.{onpath, reserve_stage, mem_at}
 use Rattle.pdl_semantics.specs.Locks.{read_ready, write_ready}
 use Rattle.pdl_semantics.specs.Machine.{Kept, same_args, with_kept}
 use Rattle.pdl_semantics.specs.Sound.{stages_before, is_barrier, is_call}
-use Rattle.pdl_theory_derived.specs.Derived.{Entry, Work, Around, work_after, do_all, has_entry, latest, said}
-use Rattle.pdl_theory_derived.specs.Derived
-use Rattle.pdl_theory_derived.specs.Alone.{before, answered_op}
-use Rattle.pdl_theory_facts.specs.Scans.{Scan, no_scan, scan_after, op_ok, reads_ok, no_guards, called}
-use Rattle.pdl_theory_facts.specs.Facts.{Sound, looked_all, at_once}
-use Rattle.pdl_theory_facts.specs.Accepted.{along}
-use Rattle.pdl_theory_derived.proofs.Writes.{and_left, and_right}
-use Rattle.pdl_theory_derived.proofs.Stages.{step, was_ready}
+use Rattle.pdl_theory_turns.specs.Derived.{Entry, Work, Around, work_after, do_all, has_entry, latest, said}
+use Rattle.pdl_theory_turns.specs.Derived
+use Rattle.pdl_theory_turns.specs.Alone.{before, answered_op}
+use Rattle.pdl_theory_turns.specs.Scans.{Scan, no_scan, scan_after, op_ok, reads_ok, no_guards, called}
+use Rattle.pdl_theory_turns.specs.Facts.{Sound, looked_all, at_once}
+use Rattle.pdl_theory_turns.specs.Accepted.{along}
+use Rattle.pdl_theory_turns.proofs.Writes.{and_left, and_right}
+use Rattle.pdl_theory_turns.proofs.Stages.{step, was_ready}
 use Rattle.pdl_theory_turns.proofs.Paths.{Fixed, before_path}
 use Rattle.pdl_theory_turns.proofs.Looks.{look, path_looked, before_looked}
 use Rattle.pdl_theory_simulation.proofs.Stretches.{on_way}

@@ -4,12 +4,12 @@ use Rattle.std.proofs.lemmas.Bool.{eqb-true}
 use Rattle.pdl_semantics.specs.Flat.{Pipe, Op, Bind, CombRead, DelayedRead, Write, ReserveRead, ReserveWrite, Block, Release, Call, SpecCall, Verify, SpecCheck, SpecBarrier, AdviceBind, AdviceRead, AdviceWrite, Stmt, all_hold}
 use Rattle.pdl_semantics.specs.Stages.{list_any, onpath, in_stage, is_release, commit_stage, mem_at, stage_at, goes_to}
 use Rattle.pdl_semantics.specs.Sound.{stages_before, stages_from, looks_at, is_release_at, is_delayed_read, one_of}
-use Rattle.pdl_theory_derived.specs.Alone.{answered_op}
-use Rattle.pdl_theory_facts.specs.Scans.{is_plain, none_of, Scan, no_scan, scan_after, op_ok, reads_ok, has_location, no_guards}
-use Rattle.pdl_theory_facts.specs.Facts.{Sound, FetchOk, FetchIf, AllFetches, looked_all, at_once}
-use Rattle.pdl_theory_facts.specs.Graphs.{stage_or}
-use Rattle.pdl_theory_facts.specs.Accepted.{along}
-use Rattle.pdl_theory_derived.proofs.Writes.{and_left, and_right}
+use Rattle.pdl_theory_turns.specs.Alone.{answered_op}
+use Rattle.pdl_theory_turns.specs.Scans.{is_plain, none_of, Scan, no_scan, scan_after, op_ok, reads_ok, has_location, no_guards}
+use Rattle.pdl_theory_turns.specs.Facts.{Sound, FetchOk, FetchIf, AllFetches, looked_all, at_once}
+use Rattle.pdl_theory_turns.specs.Graphs.{stage_or}
+use Rattle.pdl_theory_turns.specs.Accepted.{along}
+use Rattle.pdl_theory_turns.proofs.Writes.{and_left, and_right}
 use Rattle.pdl_theory_simulation.proofs.AcceptedFacts.{sound_flows}
 use Rattle.pdl_theory_turns.proofs.Looks.{path_looked}
 use Rattle.pdl_theory_turns.proofs.StageFacts.{alive}

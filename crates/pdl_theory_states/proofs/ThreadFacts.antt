@@ -8,14 +8,14 @@ use Rattle.pdl_semantics.specs.Moves.{movers, block_ready}
 use Rattle.pdl_semantics.specs.Cycle.{awaited_of, squasher, is_kept}
 use Rattle.pdl_semantics.specs.Sound.{is_barrier}
 use Rattle.pdl_semantics.specs.Machine
-use Rattle.pdl_theory_derived.specs.Derived.{Work, Around, around, befores, still, find_ask, latest}
-use Rattle.pdl_theory_derived.specs.Derived
-use Rattle.pdl_theory_facts.specs.Scans.{none_of}
-use Rattle.pdl_theory_facts.specs.Facts.{Sound, trunk_only}
-use Rattle.pdl_theory_derived.proofs.Writes.{and_left, and_right}
+use Rattle.pdl_theory_turns.specs.Derived.{Work, Around, around, befores, still, find_ask, latest}
+use Rattle.pdl_theory_turns.specs.Derived
+use Rattle.pdl_theory_turns.specs.Scans.{none_of}
+use Rattle.pdl_theory_turns.specs.Facts.{Sound, trunk_only}
+use Rattle.pdl_theory_turns.proofs.Writes.{and_left, and_right}
 use Rattle.pdl_theory_simulation.proofs.FlowFacts.{Flows}
 use Rattle.pdl_theory_simulation.proofs.AcceptedFacts.{sound_flows}
-use Rattle.pdl_theory_derived.proofs.DelayedReads.{AllAsks, found}
+use Rattle.pdl_theory_turns.proofs.DelayedReads.{AllAsks, found}
 use Rattle.pdl_theory_turns.proofs.CourseOf.{apart_asks}
 use Rattle.pdl_theory_simulation.proofs.Stretches.{Behind, AllFetched, fixed_here, start_of, on_way, Keeps, left_trunk}
 use Rattle.pdl_theory_simulation.proofs.StretchSteps.{AsksFrom}

@@ -8,14 +8,14 @@ use Rattle.pdl_semantics.specs.Machine.{Ask, Awaited, Kept, with_kept, State, an
 use Rattle.pdl_semantics.specs.Cycle.{awaited_of}
 use Rattle.pdl_semantics.specs.Sound.{one_of, is_fetch, stages_from, is_call}
 use Rattle.pdl_semantics.specs.Machine
-use Rattle.pdl_theory_derived.specs.Derived.{Entry, Around, work_of_stage}
-use Rattle.pdl_theory_derived.specs.Derived
-use Rattle.pdl_theory_facts.specs.Scans.{none_of, binds_var, called}
-use Rattle.pdl_theory_facts.specs.Facts.{Sound, is_fetch_of}
-use Rattle.pdl_theory_derived.proofs.Writes.{and_left}
+use Rattle.pdl_theory_turns.specs.Derived.{Entry, Around, work_of_stage}
+use Rattle.pdl_theory_turns.specs.Derived
+use Rattle.pdl_theory_turns.specs.Scans.{none_of, binds_var, called}
+use Rattle.pdl_theory_turns.specs.Facts.{Sound, is_fetch_of}
+use Rattle.pdl_theory_turns.proofs.Writes.{and_left}
 use Rattle.pdl_theory_simulation.proofs.FlowFacts.{Flows, calls_ok, next_of, stage_or}
 use Rattle.pdl_theory_turns.proofs.Paths.{all_stays}
-use Rattle.pdl_theory_derived.proofs.DelayedReads.{AllAsks, all_more}
+use Rattle.pdl_theory_turns.proofs.DelayedReads.{AllAsks, all_more}
 use Rattle.pdl_theory_turns.proofs.StageFacts.{asks_each, not_fetched}
 use Rattle.pdl_theory_turns.proofs.StrayPaths.{none_stage_from, fetch_binds}
 use Rattle.pdl_theory_simulation.proofs.Shapes.{calls_front, calls_back}

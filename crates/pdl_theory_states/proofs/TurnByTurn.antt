@@ -1,25 +1,25 @@
 -- The followers are the threads of the turns, one by one: the arrays have what they have released, and who still looks at a memory has nobody behind it who has released a write of it.
 use Rattle.std.proofs.Common.{◌≡◌, refl, sym, ap, ap₂, ◌∙◌, subst, ℕ, ◌≤◌, ◌<◌, inl, Bool, true, false, ◌&&◌, ◌||◌, not, List, [], ◌∷◌, ◌++◌, Option, Some, None, is_some, nat_lt, cond, if◌then◌else◌, arith, append-nil, append_assoc, le_of_lt, ltb-true, ltb-false}
 use Rattle.std.proofs.lemmas.Bool.{not-true}
-use Rattle.pdl_theory_facts.proofs.Nested.{within_all}
-use Rattle.pdl_theory_facts.specs.Graphs.{Trunk}
+use Rattle.pdl_theory_turns.proofs.Nested.{within_all}
+use Rattle.pdl_theory_turns.specs.Graphs.{Trunk}
 use Rattle.pdl_semantics.specs.Flat.{Arrays, Pipe, Stmt, of_mem, list_all}
 use Rattle.pdl_semantics.specs.Stages.{list_any, onpath, commit_stage, verify_stage}
 use Rattle.pdl_semantics.specs.Machine.{State}
 use Rattle.pdl_semantics.specs.Sequential.{thread}
 use Rattle.pdl_semantics.specs.Sound.{Follower, followers_of, strays_of, guessed_wrong, all_pairs, has_done, is_barrier, certain_after, has_released, released_by, still_looks, stages_from, looks_at, is_delayed_read, turn_writes}
 use Rattle.pdl_semantics.specs.Sound
-use Rattle.pdl_theory_derived.specs.Derived
-use Rattle.pdl_theory_derived.specs.Alone.{so_far}
-use Rattle.pdl_theory_facts.specs.Scans.{phase_all, Fresh}
-use Rattle.pdl_theory_facts.specs.Facts.{Sound, at_once}
-use Rattle.pdl_theory_derived.proofs.Writes.{and_left, and_right}
+use Rattle.pdl_theory_turns.specs.Derived
+use Rattle.pdl_theory_turns.specs.Alone.{so_far}
+use Rattle.pdl_theory_turns.specs.Scans.{phase_all, Fresh}
+use Rattle.pdl_theory_turns.specs.Facts.{Sound, at_once}
+use Rattle.pdl_theory_turns.proofs.Writes.{and_left, and_right}
 use Rattle.pdl_theory_turns.proofs.Marks.{strips}
 use Rattle.pdl_theory_turns.proofs.UndoneWrites.{marks}
 use Rattle.pdl_theory_turns.proofs.CourseOf.{course}
 use Rattle.pdl_theory_turns.proofs.Lives.{Writes, Marks}
 use Rattle.pdl_theory_turns.proofs.TurnFacts.{right_guess}
-use Rattle.pdl_theory_refinement.proofs.Spots.{Spot, with_hint, seats, Standing, Tail, Last, Strays}
+use Rattle.pdl_theory.proofs.Spots.{Spot, with_hint, seats, Standing, Tail, Last, Strays}
 use Rattle.pdl_theory_simulation.proofs.Stretches.{on_way}
 use Rattle.pdl_theory_simulation.proofs.Seats.{Live, threads_of}
 use Rattle.pdl_theory_simulation.proofs.Choices.{Seated}

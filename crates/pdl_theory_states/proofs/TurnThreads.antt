@@ -7,15 +7,15 @@ use Rattle.pdl_semantics.specs.Stages.{list_any, onpath, in_stage, is_verify, ve
 use Rattle.pdl_semantics.specs.Machine.{Pending, same_args}
 use Rattle.pdl_semantics.specs.Sequential.{Run, run_after, run_all, thread}
 use Rattle.pdl_semantics.specs.Sound.{stages_before, is_right_entry, are_right, is_write, is_spec_call, stages_from}
-use Rattle.pdl_theory_derived.specs.Derived.{Work, work_after, do_all}
-use Rattle.pdl_theory_derived.specs.Alone.{World, alone, before, answered_op, start_work, so_far}
-use Rattle.pdl_theory_facts.specs.GuessScans.{Making, Unmade, Guessed, Made, next_making, making_all, makings_ok, making_ok, is_guessed, is_unmade}
-use Rattle.pdl_theory_facts.specs.Scans.{Phase, Fresh, next_phase, phase_all, phase_ok, phases_ok, none_of, binds_var, is_fixed, no_guards}
-use Rattle.pdl_theory_facts.specs.Facts.{Sound, looked_all, at_once}
-use Rattle.pdl_theory_facts.specs.Accepted.{Accepted, along}
-use Rattle.pdl_theory_derived.proofs.Writes.{and_left, and_right, of_mem_append}
-use Rattle.pdl_theory_derived.proofs.Entries.{entries_of, entry, write_of, places, Open, Full, waiting, known, told}
-use Rattle.pdl_theory_derived.proofs.Slots.{rev}
+use Rattle.pdl_theory_turns.specs.Derived.{Work, work_after, do_all}
+use Rattle.pdl_theory_turns.specs.Alone.{World, alone, before, answered_op, start_work, so_far}
+use Rattle.pdl_theory_turns.specs.GuessScans.{Making, Unmade, Guessed, Made, next_making, making_all, makings_ok, making_ok, is_guessed, is_unmade}
+use Rattle.pdl_theory_turns.specs.Scans.{Phase, Fresh, next_phase, phase_all, phase_ok, phases_ok, none_of, binds_var, is_fixed, no_guards}
+use Rattle.pdl_theory_turns.specs.Facts.{Sound, looked_all, at_once}
+use Rattle.pdl_theory_turns.specs.Accepted.{Accepted, along}
+use Rattle.pdl_theory_turns.proofs.Writes.{and_left, and_right, of_mem_append}
+use Rattle.pdl_theory_turns.proofs.Entries.{entries_of, entry, write_of, places, Open, Full, waiting, known, told}
+use Rattle.pdl_theory_turns.proofs.Slots.{rev}
 use Rattle.pdl_theory_turns.proofs.Phases.{opened}
 use Rattle.pdl_theory_turns.proofs.Turn.{addresses_at, places_append}
 use Rattle.pdl_theory_turns.proofs.Surroundings.{taken_none}
@@ -25,7 +25,7 @@ use Rattle.pdl_theory_turns.proofs.Paths.{Fixed, taken_stays, before_path}
 use Rattle.pdl_theory_turns.proofs.OwnEntries.{none_second}
 use Rattle.pdl_theory_turns.proofs.Looks.{before_looked, run_looked}
 use Rattle.pdl_theory_turns.proofs.UndoneWrites.{writes_first, tied_at, early_written, late_empty}
-use Rattle.pdl_theory_derived.proofs.Lists.{own, pend}
+use Rattle.pdl_theory_turns.proofs.Lists.{own, pend}
 use Rattle.pdl_theory_turns.proofs.TurnFacts.{right_guess}
 use Rattle.pdl_theory_turns.proofs.Guesses.{Calls, same_args_refl}
 use Rattle.pdl_theory_simulation.proofs.Stretches.{on_way}

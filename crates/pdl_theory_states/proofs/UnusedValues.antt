@@ -5,11 +5,11 @@ use Rattle.std.proofs.lemmas.Bool.{or_parts, or_right, or_left}
 use Rattle.pdl_word.specs.Words
 use Rattle.pdl_semantics.specs.Flat.{Op, Bind, CombRead, DelayedRead, Write, ReserveRead, ReserveWrite, Block, Release, Call, SpecCall, Verify, SpecCheck, SpecBarrier, Expr, Constant, Variable, Slice, Not, Binary, Cat, LessSigned, ZeroExtend, SignExtend, Choose, Stmt, value_of, values_of, operator_value, AdviceBind, AdviceRead, AdviceWrite}
 use Rattle.pdl_semantics.specs.Forms.{on_delayed_read}
-use Rattle.pdl_theory_facts.specs.Facts.{uses_in, uses_any, mentions_var}
-use Rattle.pdl_theory_derived.proofs.Writes.{and_left, and_right}
+use Rattle.pdl_theory_turns.specs.Facts.{uses_in, uses_any, mentions_var}
+use Rattle.pdl_theory_turns.proofs.Writes.{and_left, and_right}
 use Rattle.pdl_theory_states.specs.Strict.{bound_by, uses_own, is_mentioned, is_new, all_new}
 use Rattle.pdl_word.proofs.Bools.{untrue}
-use Rattle.pdl_theory_derived.specs.Derived.{Hint, Around, said}
+use Rattle.pdl_theory_turns.specs.Derived.{Hint, Around, said}
 
 -- each statement that was carried out has the property
 abbrev pub AllOps : (Op → Type 0) → List Op → Type 0

@@ -3,7 +3,7 @@ use Rattle.std.specs.Prelude.{ℕ, Bool, List}
 use Rattle.pdl_semantics.specs.Flat.{Arrays, Pipe}
 use Rattle.pdl_semantics.specs.Machine.{State}
 use Rattle.pdl_semantics.specs.Cycle.{first, state_after, turns, ended_in}
-use Rattle.pdl_theory_facts.specs.Facts.{Sound}
+use Rattle.pdl_theory_turns.specs.Facts.{Sound}
 use Rattle.pdl_theory_states.specs.Strict.{Strict}
 
 -- the state to which a run comes from this image, after as many cycles as there are replies

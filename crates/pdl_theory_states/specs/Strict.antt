@@ -4,8 +4,8 @@ use Rattle.pdl_semantics.specs.Flat.{list_all, Op, Bind, CombRead, DelayedRead, 
 use Rattle.pdl_semantics.specs.Forms.{on_binding, on_block}
 use Rattle.pdl_semantics.specs.Stages.{list_any, onpath}
 use Rattle.pdl_semantics.specs.Sound.{is_release_at}
-use Rattle.pdl_theory_facts.specs.Facts.{uses_in, uses_any, mentions_var}
-use Rattle.pdl_theory_facts.specs.SoundChecks.{all_paths, all_guards}
+use Rattle.pdl_theory_turns.specs.Facts.{uses_in, uses_any, mentions_var}
+use Rattle.pdl_theory_turns.specs.SoundChecks.{all_paths, all_guards}
 
 -- the variable that a statement binds
 abbrev pub bound_by : Op → Option ℕ

@@ -2,10 +2,10 @@
 use Rattle.std.proofs.Common.{◌≡◌, refl, ap₂, ℕ, Bool, true, false, ◌&&◌, ◌||◌, List, [], ◌∷◌, ◌++◌, Option, ◌==◌, cond}
 use Rattle.pdl_semantics.specs.Flat.{Stmt}
 use Rattle.pdl_semantics.specs.Locks.{commit_value}
-use Rattle.pdl_theory_derived.specs.Derived.{Entry, has_entry, oldest_of, released_commits}
-use Rattle.pdl_theory_facts.specs.Scans.{Scan, scan_after, scan_after_all}
-use Rattle.pdl_theory_facts.specs.GuessScans.{is_barrier, is_sure, all_sure}
-use Rattle.pdl_theory_derived.proofs.Writes.{and_left, and_right}
+use Rattle.pdl_theory_turns.specs.Derived.{Entry, has_entry, oldest_of, released_commits}
+use Rattle.pdl_theory_turns.specs.Scans.{Scan, scan_after, scan_after_all}
+use Rattle.pdl_theory_turns.specs.GuessScans.{is_barrier, is_sure, all_sure}
+use Rattle.pdl_theory_turns.proofs.Writes.{and_left, and_right}
 
 -- THE SCAN OF BARRIERS
 

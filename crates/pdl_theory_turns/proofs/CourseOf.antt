@@ -5,21 +5,21 @@ use Rattle.pdl_semantics.specs.Flat.{Op, DelayedRead, Verify, SpecBarrier, Stmt,
 use Rattle.pdl_semantics.specs.Stages.{onpath, in_stage, stage_at, commit_stage, is_release, is_verify, verify_stage}
 use Rattle.pdl_semantics.specs.Machine.{Ask, same_args}
 use Rattle.pdl_semantics.specs.Sequential.{Run, thread}
-use Rattle.pdl_theory_derived.specs.Derived.{no_hint, Work, Around, Thread, work_of_stage, work_after, do_all, find_ask, said}
-use Rattle.pdl_theory_derived.specs.Alone.{World, alone, before, start_work, so_far, thread_at}
-use Rattle.pdl_theory_facts.specs.Scans.{none_of, all_at, no_scan, scan_after_all}
-use Rattle.pdl_theory_facts.specs.GuessScans.{stands_at, stands_before, is_barrier}
-use Rattle.pdl_theory_facts.specs.Graphs.{Trunk, next_of}
-use Rattle.pdl_theory_facts.specs.Facts.{fetches_no, none_like, alone_op, fetch_apart, FetchOk, looked_all, at_once, visits_stage, Sound}
-use Rattle.pdl_theory_facts.specs.Accepted.{along}
-use Rattle.pdl_theory_facts.specs.Facts.{trunk_only}
-use Rattle.pdl_theory_derived.proofs.Writes.{and_left, and_right}
-use Rattle.pdl_theory_derived.proofs.Stages.{step}
+use Rattle.pdl_theory_turns.specs.Derived.{no_hint, Work, Around, Thread, work_of_stage, work_after, do_all, find_ask, said}
+use Rattle.pdl_theory_turns.specs.Alone.{World, alone, before, start_work, so_far, thread_at}
+use Rattle.pdl_theory_turns.specs.Scans.{none_of, all_at, no_scan, scan_after_all}
+use Rattle.pdl_theory_turns.specs.GuessScans.{stands_at, stands_before, is_barrier}
+use Rattle.pdl_theory_turns.specs.Graphs.{Trunk, next_of}
+use Rattle.pdl_theory_turns.specs.Facts.{fetches_no, none_like, alone_op, fetch_apart, FetchOk, looked_all, at_once, visits_stage, Sound}
+use Rattle.pdl_theory_turns.specs.Accepted.{along}
+use Rattle.pdl_theory_turns.specs.Facts.{trunk_only}
+use Rattle.pdl_theory_turns.proofs.Writes.{and_left, and_right}
+use Rattle.pdl_theory_turns.proofs.Stages.{step}
 use Rattle.pdl_theory_turns.proofs.Paths.{before_path, none_onpath}
 use Rattle.pdl_theory_turns.proofs.Turn.{quiet, none_in_stage, release_looked}
 use Rattle.pdl_theory_turns.proofs.Guesses.{same_args_refl, Changed}
 use Rattle.pdl_theory_turns.proofs.TurnFacts.{next_at, right_guess, stage_work}
-use Rattle.pdl_theory_derived.proofs.DelayedReads.{AllAsks, all_more, all_snoc, Apart, apart_snoc}
+use Rattle.pdl_theory_turns.proofs.DelayedReads.{AllAsks, all_more, all_snoc, Apart, apart_snoc}
 use Rattle.pdl_theory_turns.proofs.Rooms
 use Rattle.pdl_theory_turns.proofs.Courses.{Course, AskOk, Strayed}
 use Rattle.pdl_theory_turns.proofs.StageFacts.{EachFetch, asks_each, fetch_each, alive}

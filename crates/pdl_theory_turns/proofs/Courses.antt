@@ -7,18 +7,18 @@ use Rattle.pdl_semantics.specs.Machine.{Ask, same_args, reserves_of}
 use Rattle.pdl_semantics.specs.Cycle.{awaited_of}
 use Rattle.pdl_semantics.specs.Sequential.{thread}
 use Rattle.pdl_semantics.specs.Promises.{wrote, row}
-use Rattle.pdl_theory_derived.specs.Derived.{Hint, Work, Around, Thread, State, work_of_stage, latest_in, fresh, find_ask, answered_thread}
-use Rattle.pdl_theory_derived.specs.Alone.{World, start_work, so_far, thread_at}
-use Rattle.pdl_theory_facts.specs.Scans.{is_plain}
-use Rattle.pdl_theory_facts.specs.Facts.{is_exact}
+use Rattle.pdl_theory_turns.specs.Derived.{Hint, Work, Around, Thread, State, work_of_stage, latest_in, fresh, find_ask, answered_thread}
+use Rattle.pdl_theory_turns.specs.Alone.{World, start_work, so_far, thread_at}
+use Rattle.pdl_theory_turns.specs.Scans.{is_plain}
+use Rattle.pdl_theory_turns.specs.Facts.{is_exact}
 use Rattle.pdl_theory_turns.proofs.Surroundings.{Surrounds, Right}
-use Rattle.pdl_theory_derived.proofs.Stages.{or_else}
+use Rattle.pdl_theory_turns.proofs.Stages.{or_else}
 use Rattle.pdl_theory_turns.proofs.Marks.{seen, strips, Later}
 use Rattle.pdl_theory_turns.proofs.UndoneWrites.{marks}
 use Rattle.pdl_theory_turns.proofs.TurnFacts.{Graph, Trunk, next_of, next_at, blocked_at, right_guess, stage_work}
 use Rattle.pdl_theory_turns.proofs.ThreadOrder.{Branches}
 use Rattle.pdl_theory_turns.proofs.Guesses.{Changed}
-use Rattle.pdl_theory_derived.proofs.DelayedReads.{caught, Apart, AllAsks}
+use Rattle.pdl_theory_turns.proofs.DelayedReads.{caught, Apart, AllAsks}
 
 -- a thread that moved to stage n, with what it awaits there
 abbrev pub onward : ℕ → Hint → Work → Thread

@@ -6,12 +6,12 @@ use Rattle.pdl_semantics.specs.Sound.{stages_from}
 use Rattle.pdl_semantics.specs.Stages.{is_check}
 use Rattle.pdl_semantics.specs.Machine.{same_args}
 use Rattle.pdl_semantics.specs.Sequential.{Run, run_after, run_all}
-use Rattle.pdl_theory_derived.specs.Derived.{no_hint, Work, Around, work_after, do_all, said}
-use Rattle.pdl_theory_derived.specs.Alone.{World, alone}
-use Rattle.pdl_theory_facts.specs.Scans.{Phase, no_guards, phases_ok, none_of}
-use Rattle.pdl_theory_facts.specs.GuessScans.{Making, Unmade, Guessed, Made, next_making, making_all, is_unmade, is_guessed, making_ok, makings_ok}
-use Rattle.pdl_theory_derived.proofs.Writes.{and_left, and_right}
-use Rattle.pdl_theory_derived.proofs.Stages.{step}
+use Rattle.pdl_theory_turns.specs.Derived.{no_hint, Work, Around, work_after, do_all, said}
+use Rattle.pdl_theory_turns.specs.Alone.{World, alone}
+use Rattle.pdl_theory_turns.specs.Scans.{Phase, no_guards, phases_ok, none_of}
+use Rattle.pdl_theory_turns.specs.GuessScans.{Making, Unmade, Guessed, Made, next_making, making_all, is_unmade, is_guessed, making_ok, makings_ok}
+use Rattle.pdl_theory_turns.proofs.Writes.{and_left, and_right}
+use Rattle.pdl_theory_turns.proofs.Stages.{step}
 use Rattle.pdl_theory_turns.proofs.SequentialThread.{Related, related_step, next_phases}
 use Rattle.pdl_theory_turns.proofs.Surroundings.{taken_none}
 

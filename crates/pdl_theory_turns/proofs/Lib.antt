@@ -1,3 +1,16 @@
+pub mod Writes
+pub mod Stages
+pub mod Entries
+pub mod DelayedReads
+pub mod Oldest
+pub mod Deeds
+pub mod Slots
+pub mod Lists
+pub mod SameRows
+pub mod Texts
+pub mod Passes
+pub mod Apart
+pub mod Nested
 pub mod EntryCommits
 pub mod Surroundings
 pub mod Phases
@@ -26,3 +39,4 @@ pub mod Steps
 pub mod OwnEntries
 pub mod OfStage
 pub mod Rooms
+pub use Rattle.pdl_semantics.proofs.Facts

@@ -4,7 +4,7 @@ use Rattle.pdl_semantics.specs.Flat.{Arrays, Pipe, Commit}
 use Rattle.pdl_semantics.specs.Stages.{mem_at}
 use Rattle.pdl_semantics.specs.Locks.{Nothing, read_ready}
 use Rattle.pdl_semantics.specs.Promises.{wrote, row}
-use Rattle.pdl_theory_derived.specs.Derived.{Thread}
+use Rattle.pdl_theory_turns.specs.Derived.{Thread}
 use Rattle.pdl_theory_turns.proofs.Marks.{Mark, seen}
 
 -- the writes of each memory

@@ -8,14 +8,14 @@ use Rattle.pdl_semantics.specs.Stages.{onpath, in_stage}
 use Rattle.pdl_semantics.specs.Machine.{Ask, same_args}
 use Rattle.pdl_semantics.specs.Sequential.{Run, run_after, run_all}
 use Rattle.pdl_semantics.specs.Words
-use Rattle.pdl_theory_derived.specs.Derived.{Work, Around, work_after, do_all, with_entry_value, said}
-use Rattle.pdl_theory_derived.specs.Alone.{World, alone, before, answered_op}
-use Rattle.pdl_theory_facts.specs.Facts.{uses_in, uses_any, mentions_var, asks_for, is_dead, silent_on, unseen_op, is_unseen, looked_all}
-use Rattle.pdl_theory_derived.proofs.Writes.{and_left, and_right}
-use Rattle.pdl_theory_derived.proofs.Stages.{step, joined, do_all_joined, or_else}
+use Rattle.pdl_theory_turns.specs.Derived.{Work, Around, work_after, do_all, with_entry_value, said}
+use Rattle.pdl_theory_turns.specs.Alone.{World, alone, before, answered_op}
+use Rattle.pdl_theory_turns.specs.Facts.{uses_in, uses_any, mentions_var, asks_for, is_dead, silent_on, unseen_op, is_unseen, looked_all}
+use Rattle.pdl_theory_turns.proofs.Writes.{and_left, and_right}
+use Rattle.pdl_theory_turns.proofs.Stages.{step, joined, do_all_joined, or_else}
 use Rattle.pdl_theory_turns.proofs.Paths.{Fixed}
 pub use Rattle.pdl_theory_turns.proofs.Paths.{dead_none}
-use Rattle.pdl_theory_derived.proofs.DelayedReads.{caught, caught_set, AllAsks, all_snoc}
+use Rattle.pdl_theory_turns.proofs.DelayedReads.{caught, caught_set, AllAsks, all_snoc}
 use Rattle.pdl_semantics.proofs.Bools.{by_or}
 use Rattle.pdl_semantics.specs.Sound.{is_fetch}
 

@@ -5,12 +5,12 @@ use Rattle.pdl_semantics.specs.Flat.{Pipe}
 use Rattle.pdl_semantics.specs.Stages.{is_check, onpath, in_stage, verify_stage}
 use Rattle.pdl_semantics.specs.Machine.{same_args}
 use Rattle.pdl_semantics.specs.Sequential.{Run, run_all, thread}
-use Rattle.pdl_theory_derived.specs.Derived.{Around, work_of_stage}
-use Rattle.pdl_theory_derived.specs.Alone.{World, alone, before, start_work, so_far, thread_at}
-use Rattle.pdl_theory_facts.specs.Scans.{Fresh, none_of}
-use Rattle.pdl_theory_facts.specs.GuessScans.{Making, Unmade, Guessed, Made, making_all, is_unmade, is_guessed, is_made, makings_ok}
-use Rattle.pdl_theory_facts.specs.Accepted.{Pathwise, along}
-use Rattle.pdl_theory_derived.proofs.Stages.{reset}
+use Rattle.pdl_theory_turns.specs.Derived.{Around, work_of_stage}
+use Rattle.pdl_theory_turns.specs.Alone.{World, alone, before, start_work, so_far, thread_at}
+use Rattle.pdl_theory_turns.specs.Scans.{Fresh, none_of}
+use Rattle.pdl_theory_turns.specs.GuessScans.{Making, Unmade, Guessed, Made, making_all, is_unmade, is_guessed, is_made, makings_ok}
+use Rattle.pdl_theory_turns.specs.Accepted.{Pathwise, along}
+use Rattle.pdl_theory_turns.proofs.Stages.{reset}
 use Rattle.pdl_theory_turns.proofs.TurnPath.{start_run, run_at, run_append, ok_before, start_related}
 use Rattle.pdl_theory_turns.proofs.Guesses.{same_args_refl, unchecked_from, making_append, makings_first, makings_second, no_guess, unverified_made, settled, unfailed, run_settled, Calls, calls_all, Changed, changed_all}
 use Rattle.pdl_semantics.proofs.Bools.{by_bool}

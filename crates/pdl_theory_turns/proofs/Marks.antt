@@ -5,9 +5,9 @@ use Rattle.pdl_semantics.specs.Flat.{Array, with_value, Commit, of_mem, Lock}
 use Rattle.pdl_semantics.specs.Locks.{Latest, Nothing, Coming, Known, as_latest, is_coming, value_or, read_ready}
 use Rattle.pdl_semantics.specs.Promises.{wrote}
 use Rattle.pdl_semantics.proofs.Readiness.{Calm, calm_nothing, calm_read, read_known}
-use Rattle.pdl_theory_derived.specs.Derived.{Entry, latest_in}
-use Rattle.pdl_theory_derived.proofs.Entries.{entries_of, write_of}
-use Rattle.pdl_theory_facts.specs.Scans.{is_plain}
+use Rattle.pdl_theory_turns.specs.Derived.{Entry, latest_in}
+use Rattle.pdl_theory_turns.proofs.Entries.{entries_of, write_of}
+use Rattle.pdl_theory_turns.specs.Scans.{is_plain}
 
 -- an undone write: its address, its value, and whether the value is known already
 pub record Mark : Type 0 where

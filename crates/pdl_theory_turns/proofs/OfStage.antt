@@ -2,8 +2,8 @@
 use Rattle.std.proofs.Common.{◌≡◌, refl, ap₂, subst, ℕ, Bool, true, false, ◌&&◌, ◌||◌, List, [], ◌∷◌, ◌==◌, cond}
 use Rattle.pdl_semantics.specs.Flat.{Op, Stmt, Guard}
 use Rattle.pdl_semantics.specs.Stages.{in_stage}
-use Rattle.pdl_theory_facts.specs.Scans.{none_of, binds_var, is_fixed, free_of, is_dead, keeps_guards}
-use Rattle.pdl_theory_derived.proofs.Writes.{and_left, and_right}
+use Rattle.pdl_theory_turns.specs.Scans.{none_of, binds_var, is_fixed, free_of, is_dead, keeps_guards}
+use Rattle.pdl_theory_turns.proofs.Writes.{and_left, and_right}
 
 -- what no statement of a text is, no statement of a part of it is
 pub none_stage : (test : Op → Bool) (s : ℕ) (xs : List Stmt) → none_of test xs ≡ true → none_of test (in_stage s xs) ≡ true

@@ -6,15 +6,15 @@ use Rattle.pdl_semantics.specs.Machine.{same_args, is_held, Pending, Deeds, deed
 use Rattle.pdl_semantics.specs.Cycle.{new_entries, with_writes_of, releases_of}
 use Rattle.pdl_theory_turns.proofs.EntryCommits.{released}
 use Rattle.pdl_semantics.specs.Machine
-use Rattle.pdl_theory_derived.specs.Derived.{Entry, Work, Around, do_all}
-use Rattle.pdl_theory_derived.proofs.Writes.{and_left, and_right}
-use Rattle.pdl_theory_derived.proofs.Entries.{entries_of, entry, Open, waiting, known, open_vars, told}
-use Rattle.pdl_theory_derived.specs.Alone.{is_nil}
+use Rattle.pdl_theory_turns.specs.Derived.{Entry, Work, Around, do_all}
+use Rattle.pdl_theory_turns.proofs.Writes.{and_left, and_right}
+use Rattle.pdl_theory_turns.proofs.Entries.{entries_of, entry, Open, waiting, known, open_vars, told}
+use Rattle.pdl_theory_turns.specs.Alone.{is_nil}
 use Rattle.pdl_theory_turns.proofs.Phases.{nil_of, no_fulls}
-use Rattle.pdl_theory_facts.specs.Scans.{Phase, is_over, none_of, binds_var, is_fixed, free_of, is_dead, keeps_guards}
-use Rattle.pdl_theory_derived.proofs.Stages.{step}
+use Rattle.pdl_theory_turns.specs.Scans.{Phase, is_over, none_of, binds_var, is_fixed, free_of, is_dead, keeps_guards}
+use Rattle.pdl_theory_turns.proofs.Stages.{step}
 use Rattle.pdl_theory_turns.proofs.Paths.{Fixed, all_stays, taken_stays}
-use Rattle.pdl_theory_derived.proofs.Lists.{own, pend}
+use Rattle.pdl_theory_turns.proofs.Lists.{own, pend}
 use Rattle.pdl_theory_turns.proofs.Steps.{Staged, unnamed, pendings, pend_append, new_more, releases_more}
 
 -- lists of entries of one memory

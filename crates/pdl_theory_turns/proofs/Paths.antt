@@ -7,11 +7,11 @@ use Rattle.pdl_semantics.specs.Flat.{Op, Bind, CombRead, DelayedRead, Verify, St
 use Rattle.pdl_semantics.specs.Stages.{onpath, in_stage}
 use Rattle.pdl_semantics.specs.Machine.{same_args}
 use Rattle.pdl_semantics.specs.Sequential.{Run, run_after, run_all}
-use Rattle.pdl_theory_derived.specs.Derived.{Work, Around, work_after, do_all, said}
-use Rattle.pdl_theory_derived.specs.Alone.{before, answered_op}
-use Rattle.pdl_theory_derived.proofs.Writes.{and_left, and_right}
-use Rattle.pdl_theory_derived.proofs.Stages.{step}
-use Rattle.pdl_theory_facts.specs.Scans.{none_of, binds_var, free_of, against, is_dead, keeps_guards, is_fixed}
+use Rattle.pdl_theory_turns.specs.Derived.{Work, Around, work_after, do_all, said}
+use Rattle.pdl_theory_turns.specs.Alone.{before, answered_op}
+use Rattle.pdl_theory_turns.proofs.Writes.{and_left, and_right}
+use Rattle.pdl_theory_turns.proofs.Stages.{step}
+use Rattle.pdl_theory_turns.specs.Scans.{none_of, binds_var, free_of, against, is_dead, keeps_guards, is_fixed}
 
 -- a variable that is not bound stays
 set_stays : (env : List ℕ) (x g v : ℕ) → not (x == g) ≡ true → slice_index (slice_set env x v) g ≡ slice_index env g

@@ -3,11 +3,11 @@ use Rattle.std.proofs.Common.{if◌then◌else◌, ◌≡◌, refl, sym, ap, ap�
 use Rattle.std.proofs.lemmas.List.{get_or-set_other}
 use Rattle.std.proofs.lemmas.Bool.{eqb-true, eqb-false, not-true}
 use Rattle.pdl_semantics.specs.Flat.{Commit}
-use Rattle.pdl_theory_facts.specs.Scans.{Phase, after_write, after_reserve, after_release, may_write, is_over}
-use Rattle.pdl_theory_derived.specs.Alone.{is_nil, is_among, is_oldest, drop_var, but_last}
-use Rattle.pdl_theory_derived.specs.Derived.{Entry, has_entry, without, with_entry_value, released_commits}
-use Rattle.pdl_theory_derived.proofs.Writes.{and_left, and_right}
-use Rattle.pdl_theory_derived.proofs.Entries.{entry, write_of, Open, Full, waiting, known, open_vars, full_vars, told, last_address, filled_last, let_out, let_out_vars, commit_of, Released, released_full, released_behind, without_none, no_known}
+use Rattle.pdl_theory_turns.specs.Scans.{Phase, after_write, after_reserve, after_release, may_write, is_over}
+use Rattle.pdl_theory_turns.specs.Alone.{is_nil, is_among, is_oldest, drop_var, but_last}
+use Rattle.pdl_theory_turns.specs.Derived.{Entry, has_entry, without, with_entry_value, released_commits}
+use Rattle.pdl_theory_turns.proofs.Writes.{and_left, and_right}
+use Rattle.pdl_theory_turns.proofs.Entries.{entry, write_of, Open, Full, waiting, known, open_vars, full_vars, told, last_address, filled_last, let_out, let_out_vars, commit_of, Released, released_full, released_behind, without_none, no_known}
 
 -- the locations that are still without a value, with these values of the variables
 abbrev pub opened : List ℕ → List ℕ → List Open

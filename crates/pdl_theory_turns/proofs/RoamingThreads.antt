@@ -4,22 +4,22 @@ use Rattle.pdl_semantics.specs.Flat.{Stmt, Pipe, Branch, Next, Ends, Goes, Forks
 use Rattle.pdl_semantics.specs.Stages.{onpath, in_stage, stage_at, verify_stage}
 use Rattle.pdl_semantics.specs.Machine.{Ask, Awaited, is_answered}
 use Rattle.pdl_semantics.specs.Cycle.{awaited_of}
-use Rattle.pdl_theory_derived.specs.Derived.{no_hint, Hint, Work, Around, Thread, State, do_all, work_of_stage, fresh, answered_thread, with_answers, still, word_of, asked_at}
-use Rattle.pdl_theory_derived.specs.Alone.{before}
-use Rattle.pdl_theory_facts.specs.Scans.{Scan, no_scan, scan_after_all, none_of, binds_var, is_fixed}
-use Rattle.pdl_theory_facts.specs.GuessScans.{stands_at, stands_before, Making, Unmade, Guessed, Made, making_all, is_unmade, makings_ok, all_sure}
-use Rattle.pdl_theory_facts.specs.Facts.{looked_all, at_once, is_fetch_of, comes_by, visits_stage, Sound}
-use Rattle.pdl_theory_facts.specs.Graphs.{next_of, Within}
-use Rattle.pdl_theory_facts.proofs.Nested.{came_from, arrives, visits_same}
+use Rattle.pdl_theory_turns.specs.Derived.{no_hint, Hint, Work, Around, Thread, State, do_all, work_of_stage, fresh, answered_thread, with_answers, still, word_of, asked_at}
+use Rattle.pdl_theory_turns.specs.Alone.{before}
+use Rattle.pdl_theory_turns.specs.Scans.{Scan, no_scan, scan_after_all, none_of, binds_var, is_fixed}
+use Rattle.pdl_theory_turns.specs.GuessScans.{stands_at, stands_before, Making, Unmade, Guessed, Made, making_all, is_unmade, makings_ok, all_sure}
+use Rattle.pdl_theory_turns.specs.Facts.{looked_all, at_once, is_fetch_of, comes_by, visits_stage, Sound}
+use Rattle.pdl_theory_turns.specs.Graphs.{next_of, Within}
+use Rattle.pdl_theory_turns.proofs.Nested.{came_from, arrives, visits_same}
 use Rattle.std.proofs.lemmas.List.{get_or-set_other}
 use Rattle.std.proofs.lemmas.Bool.{eqb-false, ne_eqb, or_parts, not-true, false≢true}
-use Rattle.pdl_theory_derived.proofs.Writes.{and_left, and_right}
+use Rattle.pdl_theory_turns.proofs.Writes.{and_left, and_right}
 use Rattle.pdl_theory_turns.proofs.Paths.{fixed_all, all_stays, taken_stays, before_path, stage_path}
 use Rattle.pdl_theory_turns.proofs.Surroundings.{AllIn, in_stage_all, Covers}
 use Rattle.pdl_theory_turns.proofs.OwnEntries.{fixed_to, fixed_front, fixed_second, none_second}
 use Rattle.pdl_theory_turns.proofs.Guesses.{unguarded, Changed, changed_all, begins, making_append}
 use Rattle.pdl_theory_turns.proofs.CertaintyScans.{some_barrier, barred_append, sure_first, sure_second}
-use Rattle.pdl_theory_derived.proofs.DelayedReads.{AllAsks}
+use Rattle.pdl_theory_turns.proofs.DelayedReads.{AllAsks}
 use Rattle.pdl_theory_turns.proofs.Courses.{onward}
 use Rattle.pdl_theory_turns.proofs.Looks.{before_looked, stage_looked, path_looked}
 use Rattle.pdl_theory_turns.proofs.StageFacts.{EachFetch, asks_each, not_fetched}

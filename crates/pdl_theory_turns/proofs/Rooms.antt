@@ -5,12 +5,12 @@ use Rattle.pdl_semantics.specs.Flat.{list_all, Op, DelayedRead, ReserveWrite, Ve
 use Rattle.pdl_semantics.specs.Stages.{onpath, in_stage, mem_at, is_write_reserve}
 use Rattle.pdl_semantics.specs.Locks.{has_room}
 use Rattle.pdl_semantics.specs.Machine.{Reserved, reserves_of, same_args}
-use Rattle.pdl_theory_derived.specs.Derived.{Work, Around, Thread, work_after, do_all, work_of_stage, have_room, said}
-use Rattle.pdl_theory_derived.specs.Alone.{answered_op}
+use Rattle.pdl_theory_turns.specs.Derived.{Work, Around, Thread, work_after, do_all, work_of_stage, have_room, said}
+use Rattle.pdl_theory_turns.specs.Alone.{answered_op}
 use Rattle.pdl_semantics.proofs.Readiness.{room_fewer}
-use Rattle.pdl_theory_derived.proofs.Stages.{step}
-use Rattle.pdl_theory_facts.specs.Scans.{is_fixed, write_reserves}
-use Rattle.pdl_theory_facts.specs.Facts.{Sound, looked_all}
+use Rattle.pdl_theory_turns.proofs.Stages.{step}
+use Rattle.pdl_theory_turns.specs.Scans.{is_fixed, write_reserves}
+use Rattle.pdl_theory_turns.specs.Facts.{Sound, looked_all}
 use Rattle.pdl_theory_turns.proofs.Paths.{Fixed}
 use Rattle.pdl_theory_turns.proofs.OwnEntries.{fixed_to}
 use Rattle.pdl_theory_turns.proofs.OfStage.{fixed_stage}

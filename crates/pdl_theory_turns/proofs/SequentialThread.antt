@@ -4,14 +4,14 @@ use Rattle.std.proofs.lemmas.Bool.{eqb-true, eqb-false}
 use Rattle.pdl_semantics.specs.Flat.{Array, Op, Bind, CombRead, DelayedRead, Write, ReserveWrite, Release, Call, Verify, Stmt, value_of, all_hold, word_at, Commit, of_mem, after_commits, with_word}
 use Rattle.pdl_semantics.specs.Sequential.{Run, run_after, run_all}
 use Rattle.pdl_semantics.specs.Promises.{wrote, row}
-use Rattle.pdl_theory_derived.specs.Derived.{Entry, Work, work_after, do_all, without, with_entry_value, released_commits, said}
-use Rattle.pdl_theory_derived.specs.Alone.{World, alone}
+use Rattle.pdl_theory_turns.specs.Derived.{Entry, Work, work_after, do_all, without, with_entry_value, released_commits, said}
+use Rattle.pdl_theory_turns.specs.Alone.{World, alone}
 use Rattle.pdl_semantics.specs.Machine.{same_args}
-use Rattle.pdl_theory_derived.proofs.Writes.{and_left, and_right, of_mem_append, row_committed, committed_append}
-use Rattle.pdl_theory_derived.proofs.Entries.{entries_of, filled_other, without_own, without_other, released_own, released_other, entry, write_of, told, entries_of-filled}
+use Rattle.pdl_theory_turns.proofs.Writes.{and_left, and_right, of_mem_append, row_committed, committed_append}
+use Rattle.pdl_theory_turns.proofs.Entries.{entries_of, filled_other, without_own, without_other, released_own, released_other, entry, write_of, told, entries_of-filled}
 use Rattle.pdl_theory_turns.proofs.Phases.{Tied, tied_moved, tied_set, tied_reserve, tied_write, tied_release, nil_of, no_fulls}
-use Rattle.pdl_theory_facts.specs.Scans.{Phase, after_write, after_reserve, after_release, next_phase, may_read, may_write, phase_ok, no_guards, phases_ok, phase_all}
-use Rattle.pdl_theory_derived.specs.Alone.{is_nil, is_among}
+use Rattle.pdl_theory_turns.specs.Scans.{Phase, after_write, after_reserve, after_release, next_phase, may_read, may_write, phase_ok, no_guards, phases_ok, phase_all}
+use Rattle.pdl_theory_turns.specs.Alone.{is_nil, is_among}
 use Rattle.pdl_theory_turns.proofs.Surroundings.{taken_none}
 
 -- the work of a thread alone on these arrays, and the sequential run, after the same statements

@@ -8,22 +8,22 @@ use Rattle.pdl_semantics.specs.Locks.{Latest}
 use Rattle.pdl_semantics.specs.Machine.{Ask, same_args}
 use Rattle.pdl_semantics.specs.Sequential.{Run, thread}
 use Rattle.pdl_semantics.specs.Promises.{wrote, row}
-use Rattle.pdl_theory_derived.specs.Derived.{Work, Around, Thread, work_of_stage, work_after, do_all, latest_in, has_entry, said}
-use Rattle.pdl_theory_derived.specs.Alone.{World, alone, before, answered_op, start_work, so_far, thread_at}
-use Rattle.pdl_theory_facts.specs.Scans.{is_plain, none_of, binds_var, no_scan, scan_after_all, reads_ok, has_location}
-use Rattle.pdl_theory_facts.specs.Graphs.{stage_or, next_of}
-use Rattle.pdl_theory_facts.specs.Facts.{is_dead, is_fetch_of, FetchOk, FetchIf, AllFetches, looked_all, at_once, comes_by, visits_stage, Sound}
-use Rattle.pdl_theory_facts.specs.Accepted.{along}
-use Rattle.pdl_theory_derived.proofs.Writes.{and_left, and_right}
-use Rattle.pdl_theory_derived.proofs.Entries.{entries_of}
-use Rattle.pdl_theory_derived.proofs.Stages.{or_else, reset, step}
+use Rattle.pdl_theory_turns.specs.Derived.{Work, Around, Thread, work_of_stage, work_after, do_all, latest_in, has_entry, said}
+use Rattle.pdl_theory_turns.specs.Alone.{World, alone, before, answered_op, start_work, so_far, thread_at}
+use Rattle.pdl_theory_turns.specs.Scans.{is_plain, none_of, binds_var, no_scan, scan_after_all, reads_ok, has_location}
+use Rattle.pdl_theory_turns.specs.Graphs.{stage_or, next_of}
+use Rattle.pdl_theory_turns.specs.Facts.{is_dead, is_fetch_of, FetchOk, FetchIf, AllFetches, looked_all, at_once, comes_by, visits_stage, Sound}
+use Rattle.pdl_theory_turns.specs.Accepted.{along}
+use Rattle.pdl_theory_turns.proofs.Writes.{and_left, and_right}
+use Rattle.pdl_theory_turns.proofs.Entries.{entries_of}
+use Rattle.pdl_theory_turns.proofs.Stages.{or_else, reset, step}
 use Rattle.pdl_theory_turns.proofs.Surroundings.{Surrounds, Right, in_stage_all, covers_all}
 use Rattle.pdl_theory_turns.proofs.Paths.{Fixed, all_stays, stage_path, dead_none}
 use Rattle.pdl_theory_turns.proofs.Marks.{seen, strips, Later, marked}
 use Rattle.pdl_theory_turns.proofs.UndoneWrites.{marks, known_count}
-use Rattle.pdl_theory_facts.proofs.Nested.{within_all, arrives}
+use Rattle.pdl_theory_turns.proofs.Nested.{within_all, arrives}
 use Rattle.pdl_theory_turns.proofs.TurnFacts.{next_at, blocked_at, stage_work}
-use Rattle.pdl_theory_derived.proofs.DelayedReads.{caught, AllAsks, all_more, all_snoc}
+use Rattle.pdl_theory_turns.proofs.DelayedReads.{caught, AllAsks, all_more, all_snoc}
 use Rattle.pdl_theory_turns.proofs.Looks.{look, answered_now, raw_looked, fixed_raw, before_looked, stage_looked, path_looked, run_looked}
 use Rattle.pdl_theory_turns.proofs.StageRequests.{Known, alike_asking, right_caught}
 use Rattle.pdl_theory_turns.proofs.TurnPath

@@ -4,15 +4,15 @@ use Rattle.std.proofs.lemmas.Bool.{leb-true}
 use Rattle.pdl_semantics.specs.Flat.{Op, Bind, CombRead, DelayedRead, Write, ReserveRead, ReserveWrite, Block, Release, Call, SpecCall, Verify, SpecCheck, SpecBarrier, AdviceBind, AdviceRead, AdviceWrite, Stmt, Pipe, all_hold, word_at}
 use Rattle.pdl_semantics.specs.Stages.{onpath, mem_at, commit_stage}
 use Rattle.pdl_semantics.specs.Machine.{Ask, same_args}
-use Rattle.pdl_theory_derived.specs.Derived.{Work, Around, work_after, do_all, said}
-use Rattle.pdl_theory_derived.specs.Alone.{World, alone, answered_op, Location}
-use Rattle.pdl_theory_facts.specs.Scans.{is_plain, is_address, has_location, scan_after, scan_after_all, op_ok, reads_ok, Scan, location}
-use Rattle.pdl_theory_facts.specs.Facts.{mentions_var, asks_for, is_dead, silent_on, unseen_op, is_unseen, looked_all}
-use Rattle.pdl_theory_derived.proofs.Writes.{and_left, and_right}
+use Rattle.pdl_theory_turns.specs.Derived.{Work, Around, work_after, do_all, said}
+use Rattle.pdl_theory_turns.specs.Alone.{World, alone, answered_op, Location}
+use Rattle.pdl_theory_turns.specs.Scans.{is_plain, is_address, has_location, scan_after, scan_after_all, op_ok, reads_ok, Scan, location}
+use Rattle.pdl_theory_turns.specs.Facts.{mentions_var, asks_for, is_dead, silent_on, unseen_op, is_unseen, looked_all}
+use Rattle.pdl_theory_turns.proofs.Writes.{and_left, and_right}
 use Rattle.pdl_theory_turns.proofs.Paths.{Fixed}
-use Rattle.pdl_theory_derived.proofs.Stages.{step, does_same, was_ready}
+use Rattle.pdl_theory_turns.proofs.Stages.{step, does_same, was_ready}
 use Rattle.pdl_theory_turns.proofs.Surroundings.{Surrounds, Right, AllIn, Covers, covers_op, right_set, right_at, reads_right, right_after}
-use Rattle.pdl_theory_derived.proofs.DelayedReads.{caught, AllAsks, all_more, all_snoc}
+use Rattle.pdl_theory_turns.proofs.DelayedReads.{caught, AllAsks, all_more, all_snoc}
 use Rattle.pdl_theory_turns.proofs.Looks.{look, keeps_clear, dead_none}
 use Rattle.pdl_semantics.proofs.Bools.{by_bool}
 use Rattle.pdl_semantics.specs.Sound.{is_fetch}

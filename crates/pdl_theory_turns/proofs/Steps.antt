@@ -8,14 +8,14 @@ use Rattle.pdl_semantics.specs.Locks.{commit_value}
 use Rattle.pdl_semantics.specs.Cycle.{new_entries, with_value_of, with_writes_of, releases_of}
 use Rattle.pdl_semantics.specs.Machine
 use Rattle.pdl_semantics.proofs.Facts.{put_append}
-use Rattle.pdl_theory_derived.specs.Derived.{Entry, Work, Around, has_entry, without, released_commits}
-use Rattle.pdl_theory_derived.specs.Derived
-use Rattle.pdl_theory_derived.specs.Alone.{is_among, is_oldest, drop_var, but_last}
-use Rattle.pdl_theory_derived.proofs.Writes.{of_mem_append, and_left, and_right}
-use Rattle.pdl_theory_derived.proofs.Entries.{entries_of, entry, write_of, Open, Full, waiting, known, open_vars, full_vars, told, last_address, filled_last, filled_other, entries_of-filled, without_own, without_other, released_own, released_other, Released, released_full, released_behind, without_none, no_known, let_out, let_out_vars, commit_of}
-use Rattle.pdl_theory_derived.proofs.Lists.{own, pend}
-use Rattle.pdl_theory_facts.specs.Scans.{Phase, after_write, after_reserve, after_release, may_write, is_new}
-use Rattle.pdl_theory_facts.proofs.Apart.{Apart, apart_reserve, apart_write, apart_release}
+use Rattle.pdl_theory_turns.specs.Derived.{Entry, Work, Around, has_entry, without, released_commits}
+use Rattle.pdl_theory_turns.specs.Derived
+use Rattle.pdl_theory_turns.specs.Alone.{is_among, is_oldest, drop_var, but_last}
+use Rattle.pdl_theory_turns.proofs.Writes.{of_mem_append, and_left, and_right}
+use Rattle.pdl_theory_turns.proofs.Entries.{entries_of, entry, write_of, Open, Full, waiting, known, open_vars, full_vars, told, last_address, filled_last, filled_other, entries_of-filled, without_own, without_other, released_own, released_other, Released, released_full, released_behind, without_none, no_known, let_out, let_out_vars, commit_of}
+use Rattle.pdl_theory_turns.proofs.Lists.{own, pend}
+use Rattle.pdl_theory_turns.specs.Scans.{Phase, after_write, after_reserve, after_release, may_write, is_new}
+use Rattle.pdl_theory_turns.proofs.Apart.{Apart, apart_reserve, apart_write, apart_release}
 use Rattle.pdl_theory_turns.proofs.EntryCommits.{released}
 
 -- LISTS OF PENDING WRITES

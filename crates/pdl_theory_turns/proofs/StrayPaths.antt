@@ -4,21 +4,21 @@ use Rattle.pdl_semantics.specs.Flat.{Op, Guard, DelayedRead, Release, SpecBarrie
 use Rattle.pdl_semantics.specs.Stages.{in_stage, stage_at, is_verify, verify_stage}
 use Rattle.pdl_semantics.specs.Machine.{Ask, Awaited, is_answered, same_args}
 use Rattle.pdl_semantics.specs.Cycle.{awaited_of}
-use Rattle.pdl_theory_derived.specs.Derived.{Work, Around, State, work_after, do_all, has_entry, with_answers, still, word_of, asked_at, said}
-use Rattle.pdl_theory_derived.specs.Alone.{before, answered_op}
-use Rattle.pdl_theory_facts.specs.Scans.{Scan, has_location, scan_after, scan_after_all, no_guards, none_of, binds_var, free_of, is_fixed}
-use Rattle.pdl_theory_facts.specs.GuessScans.{stands_before, Making, next_making, making_all, making_ok, makings_ok, is_barrier, is_sure, all_sure}
-use Rattle.pdl_theory_facts.specs.Facts.{is_dead, looked_all, is_fetch_of, visits_stage}
-use Rattle.pdl_theory_facts.specs.Graphs.{on_side, Within}
-use Rattle.pdl_theory_facts.proofs.Nested.{visits_same}
+use Rattle.pdl_theory_turns.specs.Derived.{Work, Around, State, work_after, do_all, has_entry, with_answers, still, word_of, asked_at, said}
+use Rattle.pdl_theory_turns.specs.Alone.{before, answered_op}
+use Rattle.pdl_theory_turns.specs.Scans.{Scan, has_location, scan_after, scan_after_all, no_guards, none_of, binds_var, free_of, is_fixed}
+use Rattle.pdl_theory_turns.specs.GuessScans.{stands_before, Making, next_making, making_all, making_ok, makings_ok, is_barrier, is_sure, all_sure}
+use Rattle.pdl_theory_turns.specs.Facts.{is_dead, looked_all, is_fetch_of, visits_stage}
+use Rattle.pdl_theory_turns.specs.Graphs.{on_side, Within}
+use Rattle.pdl_theory_turns.proofs.Nested.{visits_same}
 use Rattle.std.proofs.lemmas.List.{get_or-set_other}
 use Rattle.std.proofs.lemmas.Bool.{eqb-true, eqb-false, false≢true}
-use Rattle.pdl_theory_derived.proofs.Writes.{and_left, and_right}
-use Rattle.pdl_theory_derived.proofs.Stages.{step, was_ready}
+use Rattle.pdl_theory_turns.proofs.Writes.{and_left, and_right}
+use Rattle.pdl_theory_turns.proofs.Stages.{step, was_ready}
 use Rattle.pdl_theory_turns.proofs.Surroundings.{AllIn, Covers, covers_op}
 use Rattle.pdl_theory_turns.proofs.Guesses.{unguarded, step_free}
 use Rattle.pdl_theory_turns.proofs.CertaintyScans.{some_barrier, unreleased}
-use Rattle.pdl_theory_derived.proofs.DelayedReads.{AllAsks}
+use Rattle.pdl_theory_turns.proofs.DelayedReads.{AllAsks}
 use Rattle.pdl_theory_turns.proofs.Looks.{look, looked_twice}
 use Rattle.pdl_theory_turns.proofs.StageFacts.{binds_looked}
 use Rattle.pdl_semantics.specs.Sound.{stages_from}

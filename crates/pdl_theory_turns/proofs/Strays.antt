@@ -3,8 +3,8 @@ use Rattle.std.proofs.Common.{◌≡◌, ◌≢◌, refl, sym, ap, ◌∙◌, su
 use Rattle.std.proofs.lemmas.Bool.{eqb-true, eqb-false}
 use Rattle.pdl_semantics.specs.Flat.{Branch, Pipe, list_all}
 use Rattle.pdl_semantics.specs.Stages.{stage_at, is_inside, goes_to}
-use Rattle.pdl_theory_derived.specs.Derived.{Act, befores, can_enter, fork_clear, barrier_clear}
-use Rattle.pdl_theory_derived.proofs.Writes.{and_left, and_right}
+use Rattle.pdl_theory_turns.specs.Derived.{Act, befores, can_enter, fork_clear, barrier_clear}
+use Rattle.pdl_theory_turns.proofs.Writes.{and_left, and_right}
 use Rattle.pdl_theory_turns.proofs.TurnFacts.{Graph, Home, Within, Below, Trunk, next_of}
 
 -- what is known of the older threads of a stray one

@@ -5,11 +5,11 @@ use Rattle.std.proofs.lemmas.Bool.{eqb-true, eqb-false, leb-true, or_right as or
 use Rattle.pdl_semantics.specs.Flat.{SpecCall, Op, Bind, CombRead, DelayedRead, Write, ReserveWrite, Block, Release, Verify, Stmt, Guard, Pipe, value_of, all_hold, word_at}
 use Rattle.pdl_semantics.specs.Stages.{in_stage, mem_at, commit_stage, reserve_stage}
 use Rattle.pdl_semantics.specs.Machine.{same_args}
-use Rattle.pdl_theory_derived.specs.Derived.{Work, Around, Entry, work_after, do_all, has_entry, with_entry_value, without, moved_up, said}
-use Rattle.pdl_theory_derived.specs.Alone.{World, Location}
-use Rattle.pdl_theory_derived.proofs.Writes.{and_left, and_right}
-use Rattle.pdl_theory_derived.proofs.Stages.{ReadsRight}
-use Rattle.pdl_theory_facts.specs.Scans.{no_guards, is_plain, is_address, has_location, scan_after, scan_after_all, op_ok, reads_ok, Scan, location}
+use Rattle.pdl_theory_turns.specs.Derived.{Work, Around, Entry, work_after, do_all, has_entry, with_entry_value, without, moved_up, said}
+use Rattle.pdl_theory_turns.specs.Alone.{World, Location}
+use Rattle.pdl_theory_turns.proofs.Writes.{and_left, and_right}
+use Rattle.pdl_theory_turns.proofs.Stages.{ReadsRight}
+use Rattle.pdl_theory_turns.specs.Scans.{no_guards, is_plain, is_address, has_location, scan_after, scan_after_all, op_ok, reads_ok, Scan, location}
 use Rattle.pdl_semantics.proofs.Bools.{or_map}
 
 -- what the surroundings of a thread in stage s give where they are right for its turn; clean is what makes a location read right

@@ -3,13 +3,13 @@ use Rattle.std.proofs.Common.{◌≡◌, refl, sym, ap, ap₂, ◌∙◌, subst,
 use Rattle.std.proofs.lemmas.Bool.{eqb-true, eqb-false}
 use Rattle.pdl_semantics.specs.Flat.{Pipe, Branch, list_all}
 use Rattle.pdl_semantics.specs.Stages.{stage_at, is_inside, goes_to}
-use Rattle.pdl_theory_derived.specs.Derived.{Act, can_enter, fork_clear}
-use Rattle.pdl_theory_derived.proofs.Writes.{and_left, and_right}
+use Rattle.pdl_theory_turns.specs.Derived.{Act, can_enter, fork_clear}
+use Rattle.pdl_theory_turns.proofs.Writes.{and_left, and_right}
 use Rattle.pdl_theory_turns.proofs.TurnFacts.{Graph, Home, Within, Below, next_of}
 use Rattle.pdl_theory_turns.proofs.Strays.{enter_next, step_below}
-use Rattle.pdl_theory_facts.proofs.Nested.{same_head, same_tail, within_all, within_home, within_more, trunk_within, came}
-use Rattle.pdl_theory_facts.specs.Graphs.{Way}
-pub use Rattle.pdl_theory_facts.specs.Graphs.{Branches}
+use Rattle.pdl_theory_turns.proofs.Nested.{same_head, same_tail, within_all, within_home, within_more, trunk_within, came}
+use Rattle.pdl_theory_turns.specs.Graphs.{Way}
+pub use Rattle.pdl_theory_turns.specs.Graphs.{Branches}
 
 -- a thread in stage s stands behind an older one in stage b: in whatever branches both stand, each stage of just these that it has reached is one that the older one has left
 abbrev pub Under : Pipe → ℕ → ℕ → Type 0

@@ -8,14 +8,14 @@ use Rattle.pdl_semantics.specs.Flat.{Op, Bind, CombRead, DelayedRead, Write, Res
 use Rattle.pdl_semantics.specs.Stages.{in_stage, is_release, is_reserve}
 use Rattle.pdl_semantics.specs.Machine.{same_args}
 use Rattle.pdl_semantics.specs.Sequential.{Run, run_after}
-use Rattle.pdl_theory_derived.specs.Derived.{Work, Around, work_after, do_all, said}
-use Rattle.pdl_theory_derived.specs.Alone.{World, alone, before, answered_op, is_among, is_oldest, drop_var, but_last}
-use Rattle.pdl_theory_derived.proofs.Writes.{and_left, and_right, of_mem_append}
-use Rattle.pdl_theory_derived.proofs.Entries.{released_other, write_of, places}
-use Rattle.pdl_theory_derived.proofs.Slots.{rev}
-use Rattle.pdl_theory_facts.specs.Scans.{Phase, after_write, after_reserve, may_write, next_phase, all_at, none_of}
+use Rattle.pdl_theory_turns.specs.Derived.{Work, Around, work_after, do_all, said}
+use Rattle.pdl_theory_turns.specs.Alone.{World, alone, before, answered_op, is_among, is_oldest, drop_var, but_last}
+use Rattle.pdl_theory_turns.proofs.Writes.{and_left, and_right, of_mem_append}
+use Rattle.pdl_theory_turns.proofs.Entries.{released_other, write_of, places}
+use Rattle.pdl_theory_turns.proofs.Slots.{rev}
+use Rattle.pdl_theory_turns.specs.Scans.{Phase, after_write, after_reserve, may_write, next_phase, all_at, none_of}
 use Rattle.pdl_theory_turns.proofs.SequentialThread.{Related, Ok}
-use Rattle.pdl_theory_derived.proofs.Stages.{step}
+use Rattle.pdl_theory_turns.proofs.Stages.{step}
 use Rattle.pdl_semantics.specs.Sound.{stages_from}
 
 -- statements without a release of m commit nothing of m

@@ -4,10 +4,10 @@ use Rattle.pdl_semantics.specs.Flat.{Pipe}
 use Rattle.pdl_semantics.specs.Stages.{onpath}
 use Rattle.pdl_semantics.specs.Machine.{same_args}
 use Rattle.pdl_semantics.specs.Sequential.{thread}
-use Rattle.pdl_theory_derived.specs.Derived.{Work, work_of_stage}
-use Rattle.pdl_theory_derived.specs.Alone.{World, alone, before, thread_at, Location}
-use Rattle.pdl_theory_facts.specs.Scans.{no_scan, scan_after_all}
-pub use Rattle.pdl_theory_facts.specs.Graphs.{Home, Within, Trunk, stage_or, next_of, Below, Graph}
+use Rattle.pdl_theory_turns.specs.Derived.{Work, work_of_stage}
+use Rattle.pdl_theory_turns.specs.Alone.{World, alone, before, thread_at, Location}
+use Rattle.pdl_theory_turns.specs.Scans.{no_scan, scan_after_all}
+pub use Rattle.pdl_theory_turns.specs.Graphs.{Home, Within, Trunk, stage_or, next_of, Below, Graph}
 
 -- the locations that a turn has blocked for reading before stage s
 abbrev pub blocked_at : Pipe → World → List ℕ → ℕ → List Location

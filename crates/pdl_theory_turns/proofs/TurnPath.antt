@@ -5,16 +5,16 @@ use Rattle.pdl_semantics.specs.Flat.{Arrays, Stmt, Pipe, all_hold, Commit, of_me
 use Rattle.pdl_semantics.specs.Stages.{in_stage, mem_at, is_release, is_reserve, commit_stage, reserve_stage}
 use Rattle.pdl_semantics.specs.Sequential.{Run, run_after, run_all, thread}
 use Rattle.pdl_semantics.specs.Promises.{wrote, row}
-use Rattle.pdl_theory_derived.specs.Derived.{Work, Around, Thread, work_after, do_all, work_of_stage}
-use Rattle.pdl_theory_derived.specs.Alone.{World, alone, before, start_work, so_far, thread_at, undone, is_nil}
-use Rattle.pdl_theory_derived.proofs.Writes.{and_left, and_right, of_mem_append, row_committed}
-use Rattle.pdl_theory_derived.proofs.Entries.{entries_of, places}
-use Rattle.pdl_theory_derived.proofs.Slots.{rev}
+use Rattle.pdl_theory_turns.specs.Derived.{Work, Around, Thread, work_after, do_all, work_of_stage}
+use Rattle.pdl_theory_turns.specs.Alone.{World, alone, before, start_work, so_far, thread_at, undone, is_nil}
+use Rattle.pdl_theory_turns.proofs.Writes.{and_left, and_right, of_mem_append, row_committed}
+use Rattle.pdl_theory_turns.proofs.Entries.{entries_of, places}
+use Rattle.pdl_theory_turns.proofs.Slots.{rev}
 use Rattle.pdl_theory_turns.proofs.Phases.{finished, nil_of}
-use Rattle.pdl_theory_facts.specs.Scans.{Phase, Fresh, next_phase, phase_ok, no_guards, phases_ok, phase_all, is_over, none_of, scan_after, reads_ok, scan_after_all, is_plain, Scan, no_scan}
+use Rattle.pdl_theory_turns.specs.Scans.{Phase, Fresh, next_phase, phase_ok, no_guards, phases_ok, phase_all, is_over, none_of, scan_after, reads_ok, scan_after_all, is_plain, Scan, no_scan}
 use Rattle.pdl_theory_turns.proofs.SequentialThread.{Related, related_all, related_step, Ok, next_phases}
-use Rattle.pdl_theory_derived.proofs.Stages.{step, joined, next_piece, do_all_append}
-use Rattle.pdl_theory_facts.specs.Accepted.{Accepted}
+use Rattle.pdl_theory_turns.proofs.Stages.{step, joined, next_piece, do_all_append}
+use Rattle.pdl_theory_turns.specs.Accepted.{Accepted}
 use Rattle.pdl_theory_turns.proofs.Turn.{quiet, none_in_stage, none_before, none_from, release_looked, spots, spots_op, addresses_at}
 use Rattle.pdl_theory_turns.proofs.Surroundings.{taken_none}
 use Rattle.pdl_semantics.specs.Sound.{stages_from}

@@ -5,14 +5,14 @@ use Rattle.pdl_semantics.specs.Stages.{onpath, in_stage, mem_at, commit_stage, r
 use Rattle.pdl_semantics.specs.Locks.{Latest}
 use Rattle.pdl_semantics.specs.Sequential.{Run, thread}
 use Rattle.pdl_semantics.specs.Promises.{wrote, row}
-use Rattle.pdl_theory_derived.specs.Derived.{Work, work_of_stage, do_all, latest_in}
-use Rattle.pdl_theory_derived.specs.Alone.{World, alone, before, start_work, so_far, thread_at}
-use Rattle.pdl_theory_derived.proofs.Entries.{entries_of}
-use Rattle.pdl_theory_derived.proofs.Stages.{or_else, next_piece, joined, reset}
-use Rattle.pdl_theory_facts.specs.Scans.{is_plain, none_of, binds_var, no_scan, scan_after_all}
-use Rattle.pdl_theory_facts.specs.Accepted.{Accepted, along, Pathwise}
+use Rattle.pdl_theory_turns.specs.Derived.{Work, work_of_stage, do_all, latest_in}
+use Rattle.pdl_theory_turns.specs.Alone.{World, alone, before, start_work, so_far, thread_at}
+use Rattle.pdl_theory_turns.proofs.Entries.{entries_of}
+use Rattle.pdl_theory_turns.proofs.Stages.{or_else, next_piece, joined, reset}
+use Rattle.pdl_theory_turns.specs.Scans.{is_plain, none_of, binds_var, no_scan, scan_after_all}
+use Rattle.pdl_theory_turns.specs.Accepted.{Accepted, along, Pathwise}
 use Rattle.pdl_theory_turns.proofs.Paths.{Fixed, run_path, fixed_path_to, fixed_all, all_stays, before_path, stage_path}
-use Rattle.pdl_theory_derived.proofs.Writes.{and_left, and_right}
+use Rattle.pdl_theory_turns.proofs.Writes.{and_left, and_right}
 use Rattle.std.proofs.lemmas.Bool.{eqb-true, eqb-false}
 use Rattle.pdl_theory_turns.proofs.Marks.{seen, strips, Later, marked}
 use Rattle.pdl_theory_turns.proofs.UndoneWrites.{marks, known_count}

@@ -6,15 +6,15 @@ use Rattle.pdl_semantics.specs.Flat.{Op, Write, Stmt, Pipe, value_of, all_hold, 
 use Rattle.pdl_semantics.specs.Stages.{in_stage, mem_at, commit_stage, reserve_stage}
 use Rattle.pdl_semantics.specs.Locks.{Latest, Coming, Known, as_latest}
 use Rattle.pdl_semantics.specs.Sequential.{Run, run_after, run_all, thread}
-use Rattle.pdl_theory_derived.specs.Derived.{Entry, work_of_stage, latest_in}
-use Rattle.pdl_theory_derived.specs.Alone.{World, alone, before, so_far, thread_at, undone}
-use Rattle.pdl_theory_derived.proofs.Writes.{of_mem_append}
-use Rattle.pdl_theory_derived.proofs.Entries.{entries_of, write_of, places, Open, Full, waiting, known, told, length_places}
-use Rattle.pdl_theory_derived.proofs.Slots.{rev}
+use Rattle.pdl_theory_turns.specs.Derived.{Entry, work_of_stage, latest_in}
+use Rattle.pdl_theory_turns.specs.Alone.{World, alone, before, so_far, thread_at, undone}
+use Rattle.pdl_theory_turns.proofs.Writes.{of_mem_append}
+use Rattle.pdl_theory_turns.proofs.Entries.{entries_of, write_of, places, Open, Full, waiting, known, told, length_places}
+use Rattle.pdl_theory_turns.proofs.Slots.{rev}
 use Rattle.pdl_theory_turns.proofs.Turn.{addresses_at, places_append}
 use Rattle.pdl_theory_turns.proofs.Phases.{Tied, opened}
-use Rattle.pdl_theory_facts.specs.Scans.{Fresh, phase_all, is_plain}
-use Rattle.pdl_theory_facts.specs.Accepted.{Accepted}
+use Rattle.pdl_theory_turns.specs.Scans.{Fresh, phase_all, is_plain}
+use Rattle.pdl_theory_turns.specs.Accepted.{Accepted}
 use Rattle.pdl_theory_turns.proofs.Marks.{Mark, seen, strips, marked, Later, raised_marked, strips_marked, latest_own, no_strips, marked_more, marked_last, seen_append}
 use Rattle.pdl_theory_turns.proofs.TurnPath.{run_rest, related_at, commits_early, commits_late, all_places, run_at, start_run, run_append, quiet_at, undone_step, plain_writes, undone_in_end}
 use Rattle.pdl_semantics.specs.Sound.{stages_from}

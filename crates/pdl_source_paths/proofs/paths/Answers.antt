@@ -1,6 +1,6 @@
 use Rattle.pdl_semantics.specs.Flatten.{flat}
-use Rattle.pdl_theory_facts.specs.Facts.{at_once}
-use Rattle.pdl_theory_facts.proofs.Passes
+use Rattle.pdl_theory_turns.specs.Facts.{at_once}
+use Rattle.pdl_theory_turns.proofs.Passes
 use Rattle.pdl_source_paths.proofs.PathTests.{parts}
 use Rattle.pdl_source_paths.proofs.paths.Goals as goal
 

@@ -1,7 +1,7 @@
 -- proofs/derived_whole/Answers.antt
 use Rattle.pdl_theory_turns.proofs.CourseOf.{course}
-use Rattle.pdl_theory_refinement.proofs.Follows.{refines, advances}
-use Rattle.pdl_theory_progress.proofs.Rates.{keeps_pace}
+use Rattle.pdl_theory.proofs.Follows.{refines, advances}
+use Rattle.pdl_theory.proofs.Rates.{keeps_pace}
 use Rattle.pdl_theory.proofs.derived_whole.Goals as goal
 
 pub returns : goal.returns

@@ -1,3 +1,0 @@
-pub mod StandingStates
-pub mod Outside
-pub mod MadeNetlist

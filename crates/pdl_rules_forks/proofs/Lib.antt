@@ -1,3 +1,0 @@
-mod Steps
-pub mod Lines
-pub mod Counts

@@ -1,3 +1,0 @@
-pub mod CountSteps
-pub mod GuardSteps
-pub mod LowestRule

@@ -1,4 +1,0 @@
-pub mod Texts
-pub mod Passes
-pub mod Apart
-pub mod Nested

@@ -1,8 +1,0 @@
-pub mod Scans
-pub mod GuessScans
-pub mod Graphs
-pub mod Facts
-pub mod SoundChecks
-pub mod Accepted
-pub mod Checks
-pub use Rattle.pdl_theory_derived.specs.Alone

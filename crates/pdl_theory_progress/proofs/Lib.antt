@@ -1,4 +1,0 @@
-pub mod Rates
-pub mod Outer
-pub mod SoundTests
-pub mod TestedPaths
