@@ -8,7 +8,7 @@ use Rattle.pdl_lockapi.specs.Laws.{StepSignals, HidesLaw, StepLaw, own}
 use Rattle.pdl_lockapi.specs.Second.{Commit2Law}
 use Rattle.pdl_law_parts.specs.Places.{comb_place}
 use Rattle.pdl_pipe_walk.specs.Locked.{Members, some_at}
-use Rattle.pdl_pipe_walk.proofs.TwiceFlags.{flag_count, flag_is}
+use Rattle.pdl_law_parts.proofs.TwiceFlags.{flag_count, flag_is}
 use Rattle.pdl_pipe_locks.specs.Deeds.{steps_in}
 use Rattle.pdl_pipe_locks.specs.Round.{is_twice}
 use Rattle.pdl_pipe_locks.proofs.Places.{at_place, unwritten_place}

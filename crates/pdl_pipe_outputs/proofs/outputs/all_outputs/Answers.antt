@@ -7,7 +7,7 @@ use Rattle.pdl_net.specs.Signal.{Signal}
 use Rattle.pdl_law_parts.specs.Views.{View, Gates}
 use Rattle.pdl_law_sides.specs.WholeNetlist.{whole_shown}
 use Rattle.pdl_pipe_outputs.specs.declared.outputs.OutNet.{OutNet}
-use Rattle.pdl_pipe_walk.proofs.TwiceFlags.{flag_count}
+use Rattle.pdl_law_parts.proofs.TwiceFlags.{flag_count}
 use Rattle.pdl_pipe_locks.specs.Stepped.{commits_in}
 use Rattle.pdl_pipe_outputs.specs.ToldOutputs.{AreOf, OutsThere, asks_in, shown_by}
 use Rattle.pdl_pipe_outputs.specs.OutputList.{all_outs}
