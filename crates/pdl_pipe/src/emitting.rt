@@ -25,14 +25,14 @@ use pdl_kit::{NoMemory, Seq};
 use pdl_lockapi::LockModule;
 use pdl_net::Net;
 use pdl_order::OrderRegs;
-use pdl_pipe_beside::{BesideRound, order_states, port_states, requests};
+use pdl_pipe_beside::{BesideRound, lay_orders, lay_ports, requests};
 use pdl_pipe_emitted::{MoveNets, all_moves};
 use pdl_pipe_exprs::Bits;
-use pdl_pipe_locks::memories;
+use pdl_pipe_locks::lay_memories;
 use pdl_pipe_nexts::StageLine;
-use pdl_pipe_outputs::{all_outputs, read_inputs, reply_inputs, show};
+use pdl_pipe_ports::{all_outputs, read_inputs, reply_inputs, show};
 use pdl_pipe_registers::tickets::next_tickets;
-use pdl_pipe_registers::{Shared, stages};
+use pdl_pipe_registers::{Shared, lay_stages};
 use pdl_pipe_walk::MemLock;
 use pdl_port::PortRegs;
 use std::alloc::Global;
@@ -159,8 +159,8 @@ fn emit_stages<L: LockModule>(
     ensures { IfOk result (λ ns. IsNamedEmitted (members L.LockModule) b.new
         (form pipe.now) ns.items) }
 {
-    let orders = order_states(alloc, b, pipe)?;
-    let stages = stages(alloc, b, pipe, bits, locks, twice, ports)?;
+    let orders = lay_orders(alloc, b, pipe)?;
+    let stages = lay_stages(alloc, b, pipe, bits, locks, twice, ports)?;
     let zeros = zeros(alloc, b, pipe)?;
     let next = next_tickets(alloc, locks, bits.zero)?;
     let shared = Shared {
@@ -195,9 +195,9 @@ pub fn emit_all<L: LockModule + Copy>(
 {
     let inputs = reply_inputs(alloc, b, pipe)?;
     let reads = read_inputs(alloc, pipe, inputs.as_slice())?;
-    let made = memories(alloc, b, pipe, locks)?;
+    let made = lay_memories(alloc, b, pipe, locks)?;
     let bits = Bits::new(b)?;
-    let ports = port_states(alloc, b, pipe, reads.as_slice())?;
+    let ports = lay_ports(alloc, b, pipe, reads.as_slice())?;
     let twice = all_twice(alloc, pipe)?;
     let flags = twice.as_slice();
     emit_stages(

@@ -46,7 +46,7 @@ fn zeros(alloc: Global, b: &mut Builder, pipe: &FlatPipe) -> Result<Seq<Net>, No
 }
 
 // A stage after those before it, with its statements.
-fn stage<L: LockModule>(
+fn lay_stage<L: LockModule>(
     alloc: Global,
     b: &mut Builder,
     pipe: &FlatPipe,
@@ -104,7 +104,7 @@ fn append<T: Drop>(items: &mut Vec<T>, item: T) -> Result<(), NoMemory>
 }
 
 /// The stages of a pipe, one after the other, round these locks and ports, where `twice` says of each memory whether some path reserves it twice to write.
-pub fn stages<L: LockModule>(
+pub fn lay_stages<L: LockModule>(
     alloc: Global,
     b: &mut Builder,
     pipe: &FlatPipe,
@@ -141,7 +141,7 @@ pub fn stages<L: LockModule>(
     let mut stages = Vec::new(alloc);
     let line = pipe.stages();
     for _ in 0..line.len() {
-        let s = stage(
+        let s = lay_stage(
             alloc,
             b,
             pipe,
