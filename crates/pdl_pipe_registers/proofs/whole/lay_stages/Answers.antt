@@ -1,19 +1,16 @@
-use Rattle.std.proofs.Common.{◌≡◌, ◌+◌, [], map, length, sym, ap, ◌∙◌, subst, arith, rules}
+use Rattle.std.proofs.Common.{◌≡◌, ◌+◌, [], length, sym, ap, ◌∙◌, subst, arith, rules}
 use Rattle.std.proofs.lemmas.List.{length-map}
 use Rattle.pdl_form.specs.FormView.{form}
 use Rattle.pdl_form.specs.View.{stage_view}
-use Rattle.pdl_net.specs.Growth.{Keeps}
-use Rattle.pdl_net.proofs.Keeps.{extends_keeps, extends_trans}
-use Rattle.pdl_pipe_exprs.specs.Nets.{NetsThere, signals_in}
+use Rattle.pdl_net.proofs.Keeps.{extends_keeps, extends_refl, extends_trans}
+use Rattle.pdl_pipe_exprs.specs.Nets.{signals_in}
 use Rattle.pdl_law_parts.specs.Walk.{Locks}
-use Rattle.pdl_pipe_walk.specs.Locked.{members, locks_in, AreLocked}
+use Rattle.pdl_pipe_walk.specs.Locked.{members, locks_in}
 use Rattle.pdl_pipe_answers.specs.Ports.{answers_in}
-use Rattle.pdl_pipe_answers.proofs.PortAnswers.{answers_keep}
-use Rattle.pdl_pipe_walk.proofs.NetGrowth.{bits_keep}
 use Rattle.pdl_pipe_walk.proofs.MadeLocks.{locked_keep, locks_same}
-use Rattle.pdl_pipe_registers.specs.Begun.{AreEnded, ticket_net}
+use Rattle.pdl_pipe_registers.specs.Begun.{AreEnded}
 use Rattle.pdl_pipe_registers.specs.Staged.{IsStaged, next_signals}
-use Rattle.pdl_pipe_registers.proofs.TicketsMade.{next_there, next_are, next_same}
+use Rattle.pdl_pipe_registers.proofs.TicketsMade.{next_same}
 use Rattle.pdl_pipe_registers.proofs.StageEnds.{staged_answers}
 use Rattle.pdl_pipe_registers.proofs.StagesMade.{StagesSoFar, stages_none, stages_more}
 use Rattle.pdl_pipe_registers.proofs.whole.lay_stages.Goals as goal
@@ -21,34 +18,13 @@ use Rattle.pdl_pipe_registers.proofs.whole.lay_stages.Goals as goal
 pub loop-init : goal.loop-init
 loop-init g c =
     let a = c.args.b.now in
-    let b = c.zeros.new.b in
     let f = form c.args.pipe.now in
     let l = members g.L.LockModule in
     let xs = c.args.locks.now in
-    let e : Keeps a b = extends_keeps a b c.zeros.ensures.extends in
-    let zero = c.args.bits.zero in
-    let bits = bits_keep a b c.args.bits e c.requires.bits in
-    let locked : AreLocked l b f.pipe xs = locked_keep l a b e g.met.L.LockModule.stays f.pipe xs c.requires.locks in
-    let next : c.in_ok-next.next ≡ map (ticket_net zero) xs = c.in_ok-next.ensures in
-    let count = length-map xs (ticket_net zero) in
-    let long = ap length next in
-    let n = c.requires.locks.count in
+    let x = c.args.shared.now in
     let none : c.new-stages.result.items ≡ [] = search rules in
-    subst
-    (λ ys. StagesSoFar a b f (next_signals a xs) (answers_in a c.args.ports.now) (locks_in l f.pipe a xs)
-    (record { bits = c.args.bits; zeros = c.in_ok-blank.blank; next = c.in_ok-next.next; ports = c.args.ports }) ys 0)
-    (sym none)
-    (stages_none a b f (next_signals a xs) (answers_in a c.args.ports.now) (locks_in l f.pipe a xs)
-    (record { bits = c.args.bits; zeros = c.in_ok-blank.blank; next = c.in_ok-next.next; ports = c.args.ports }) c.zeros.ensures.extends
-    (record {
-      bits = bits;
-      zeros_there = c.in_ok-blank.ensures.there;
-      zeros = c.in_ok-blank.ensures.means;
-      next_there = subst (NetsThere b) (sym next) (next_there l b f.pipe zero bits.zero xs locked);
-      next_count = omega (arith, count, long, n);
-      ports = answers_keep a b e f.pipe c.args.ports.now c.requires.ports;
-    })
-    (ap (signals_in b) next ∙ next_are l b f.pipe zero bits.zero xs ∙ next_same l a b e f.pipe xs c.requires.locks))
+    subst (λ ys. StagesSoFar a a f (next_signals a xs) (answers_in a x.ports.now) (locks_in l f.pipe a xs) x ys 0) (sym none)
+    (stages_none a a f (next_signals a xs) (answers_in a x.ports.now) (locks_in l f.pipe a xs) x (extends_refl a) c.requires.shared c.requires.next)
 
 pub lay_stage-requires-clause-locks : goal.lay_stage-requires-clause-locks
 lay_stage-requires-clause-locks g c =
@@ -67,7 +43,7 @@ pub lay_stage-requires-clause-before : goal.lay_stage-requires-clause-before
 lay_stage-requires-clause-before g c =
     let b = c.loop.b in
     let f = form c.args.pipe.now in
-    subst (AreEnded b f (signals_in b c.in_ok-next.next)) (sym c.as_slice.ensures.value)
+    subst (AreEnded b f (signals_in b c.args.shared.now.next)) (sym c.as_slice.ensures.value)
     (subst (λ fs. AreEnded b f fs c.loop.stages.items) (sym c.loop.invariant.next) c.loop.invariant.ended)
 
 pub lay_stage-requires-clause-stage : goal.lay_stage-requires-clause-stage
@@ -87,6 +63,7 @@ loop-preserved g c =
     let f = form c.args.pipe.now in
     let l = members g.L.LockModule in
     let xs = c.args.locks.now in
+    let x = c.args.shared.now in
     let ss = c.loop.stages.items in
     let t = c.in_ok-s.s in
     let inv = c.loop.invariant in
@@ -94,21 +71,14 @@ loop-preserved g c =
     let e = extends_keeps a b inv.extends in
     let now =
     subst
-    (λ ys. IsStaged d f (signals_in b c.in_ok-next.next) (answers_in b c.args.ports.now)
+    (λ ys. IsStaged d f (signals_in b x.next) (answers_in b x.ports.now)
     (locks_in l f.pipe b xs) ys (length ys) t) c.as_slice.ensures.value c.in_ok-s.ensures.staged in
-    let new = subst (λ (z : Locks). IsStaged d f (next_signals a xs) (answers_in a c.args.ports.now) z ss (length ss) t) same
-    (subst (λ fs. IsStaged d f fs (answers_in a c.args.ports.now) (locks_in l f.pipe b xs) ss (length ss) t) inv.next
-    (staged_answers a b d f (signals_in b c.in_ok-next.next) c.args.ports.now (locks_in l f.pipe b xs) ss (length ss) t e c.requires.ports now)) in
-    let more = stages_more a b d f (next_signals a xs) (answers_in a c.args.ports.now) (locks_in l f.pipe a xs)
-    (record {
-      bits = c.args.bits;
-      zeros = c.in_ok-blank.blank;
-      next = c.in_ok-next.next;
-      ports = c.args.ports;
-    }) ss c.loop.counter t c.lay_stage.ensures.extends new c.in_ok-s.ensures.place c.in_ok-s.ensures.last inv in
+    let new = subst (λ (z : Locks). IsStaged d f (next_signals a xs) (answers_in a x.ports.now) z ss (length ss) t) same
+    (subst (λ fs. IsStaged d f fs (answers_in a x.ports.now) (locks_in l f.pipe b xs) ss (length ss) t) inv.next
+    (staged_answers a b d f (signals_in b x.next) x.ports.now (locks_in l f.pipe b xs) ss (length ss) t e c.requires.shared.ports now)) in
+    let more = stages_more a b d f (next_signals a xs) (answers_in a x.ports.now) (locks_in l f.pipe a xs) x ss c.loop.counter t c.lay_stage.ensures.extends new c.in_ok-s.ensures.place c.in_ok-s.ensures.last inv in
     subst
-    (λ ys. StagesSoFar a d f (next_signals a xs) (answers_in a c.args.ports.now) (locks_in l f.pipe a xs)
-    (record { bits = c.args.bits; zeros = c.in_ok-blank.blank; next = c.in_ok-next.next; ports = c.args.ports }) ys (c.loop.counter + 1))
+    (λ ys. StagesSoFar a d f (next_signals a xs) (answers_in a x.ports.now) (locks_in l f.pipe a xs) x ys (c.loop.counter + 1))
     (sym c.in_ok-append.ensures) more
 
 pub returns-clause-count : goal.returns-clause-count
