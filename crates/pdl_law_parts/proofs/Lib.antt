@@ -34,3 +34,4 @@ pub mod LinesColumns
 pub mod LinesEnds
 pub mod Establish
 pub mod AnsweredThreads
+pub use Rattle.pdl_machine_facts.proofs.TwiceFlags

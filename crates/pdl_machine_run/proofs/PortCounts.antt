@@ -66,11 +66,6 @@ ports_counted p st acts =
     let c = length-append (stage_values o.valid o.moves) (all_commit_values ts p.mems o.commits ++ (all_request_values p.mems o.requests ++ last)) in
     omega (arith, stages, memories, a, b, c)
 
--- each memory is told once
-pub told_counted : (xs : List Stmt) (m : ℕ) (ms : List Mem) → length (all_twice xs m ms) ≡ length ms
-told_counted xs m [] = refl
-told_counted xs m (x ∷ ms) = let rest = told_counted xs (suc m) ms in omega (arith, rest)
-
 -- HOW MANY ARE SHOWN
 
 -- two values are shown for each stage

@@ -25,9 +25,9 @@ use Rattle.pdl_pipe_locks.specs.Lawful.{AreLawful}
 use Rattle.pdl_pipe_locks.specs.Stepped.{AreStepped, commits_in}
 use Rattle.pdl_pipe_locks.proofs.LockGrowth.{Stays}
 use Rattle.pdl_pipe_locks.proofs.Law.{BothFit}
-use Rattle.pdl_pipe_outputs.specs.declared.outputs.ShownNets.{ShownNets}
-use Rattle.pdl_pipe_outputs.specs.declared.outputs.OutNet.{OutNet}
-use Rattle.pdl_pipe_outputs.specs.ToldOutputs.{asks_in, output_of, OutsThere, ShowAll}
+use Rattle.pdl_pipe_ports.specs.declared.outputs.ShownNets.{ShownNets}
+use Rattle.pdl_pipe_ports.specs.declared.outputs.OutNet.{OutNet}
+use Rattle.pdl_pipe_ports.specs.ToldOutputs.{asks_in, output_of, OutsThere, ShowAll}
 use Rattle.pdl_pipe_emitted.specs.Emitted.{Nets, Emission, name_in, locks_of, views_of, moves_of, gates_of, sides_of}
 use Rattle.pdl_pipe_emitted.proofs.LaidNetlist.{laid}
 use Rattle.pdl_pipe_emitted.proofs.LaidLocks.{locks_made, locked_made, lawful_made, stepped_made, starts_lock, fits_at}

@@ -29,9 +29,9 @@ use Rattle.pdl_pipe_nexts.specs.Lines.{line_form, line_pipe}
 use Rattle.pdl_pipe_nexts.proofs.LineGrowth as lines
 use Rattle.pdl_pipe_locks.specs.Stepped.{FitsMemory, commit_of, commits_in}
 use Rattle.pdl_pipe_locks.specs.Suited.{shapes_in}
-use Rattle.pdl_pipe_outputs.specs.declared.outputs.ShownNets.{ShownNets}
-use Rattle.pdl_pipe_outputs.specs.declared.outputs.OutNet.{OutNet}
-use Rattle.pdl_pipe_outputs.specs.ToldOutputs.{ask_of, asks_in, output_of, shown_by, valid_in, moves_in, AreOf, OutsThere, ShowAll}
+use Rattle.pdl_pipe_ports.specs.declared.outputs.ShownNets.{ShownNets}
+use Rattle.pdl_pipe_ports.specs.declared.outputs.OutNet.{OutNet}
+use Rattle.pdl_pipe_ports.specs.ToldOutputs.{ask_of, asks_in, output_of, shown_by, valid_in, moves_in, AreOf, OutsThere, ShowAll}
 use Rattle.pdl_pipe_emitted.specs.Emitted.{Nets, Emission, name_in, views_of, moves_of, gates_of}
 use Rattle.pdl_pipe_emitted.proofs.LaidGrowth.{keeps_bc, keeps_cd, keeps_ch, keeps_hi}
 use Rattle.pdl_pipe_emitted.proofs.SidesStages.{some_of, at_signal}

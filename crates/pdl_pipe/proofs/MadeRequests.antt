@@ -29,7 +29,7 @@ use Rattle.pdl_pipe_registers.proofs.Lists.{view_at}
 use Rattle.pdl_pipe_nexts.specs.Lines.{line_pipe}
 use Rattle.pdl_pipe_locks.specs.Stepped.{commits_in}
 use Rattle.pdl_pipe_locks.proofs.LockGrowth.{Stays}
-use Rattle.pdl_pipe_outputs.specs.ToldOutputs.{ask_of, asks_in}
+use Rattle.pdl_pipe_ports.specs.ToldOutputs.{ask_of, asks_in}
 use Rattle.pdl_pipe_emitted.specs.Emitted.{Nets, Emission, views_of, moves_of, sides_of, inputs_of, free_of, squashes_of}
 use Rattle.pdl_pipe_emitted.proofs.LaidGrowth.{keeps_bd, keeps_cd}
 use Rattle.pdl_pipe_emitted.proofs.LaidLocks.{fits_at, words_at}

@@ -23,9 +23,9 @@ use Rattle.pdl_pipe_locks.specs.Lawful.{AreLawful, AreUnwritten}
 use Rattle.pdl_pipe_locks.specs.Suited.{shapes_in}
 use Rattle.pdl_pipe_locks.proofs.Law.{locks_end}
 use Rattle.pdl_pipe_locks.proofs.LockGrowth.{Stays, locked_kept, laws_kept}
-use Rattle.pdl_pipe_outputs.specs.Inputs.{AreReplies, AreReadDelayed, AreWhereRead, HasReplies}
-use Rattle.pdl_pipe_outputs.proofs.RequestPorts.{are_taken}
-use Rattle.pdl_pipe_outputs.proofs.InputLists.{replies_kept}
+use Rattle.pdl_pipe_ports.specs.Inputs.{AreReplies, AreReadDelayed, AreWhereRead, HasReplies}
+use Rattle.pdl_pipe_ports.proofs.RequestPorts.{are_taken}
+use Rattle.pdl_pipe_ports.proofs.InputLists.{replies_kept}
 use Rattle.pdl_pipe.specs.Emitted.{HasMemoriesIn}
 use Rattle.pdl_pipe_emitted.specs.Emitted.{name_in}
 use Rattle.pdl_pipe.proofs.KeptSteps.{unwritten_kept}

@@ -14,8 +14,8 @@ use Rattle.pdl_pipe_beside.specs.declared.outside.RequestNets.{RequestNets}
 use Rattle.pdl_pipe_nexts.specs.declared.line.StageLine.{StageLine}
 use Rattle.pdl_pipe_nexts.specs.Lines.{IsLineIn}
 use Rattle.pdl_pipe_locks.specs.Stepped.{AreStepped}
-use Rattle.pdl_pipe_outputs.specs.declared.outputs.ShownNets.{ShownNets}
-use Rattle.pdl_pipe_outputs.specs.ToldOutputs.{AreThereStages, AreCommits, AreAsked, IsThereCommit, IsThereRequest}
+use Rattle.pdl_pipe_ports.specs.declared.outputs.ShownNets.{ShownNets}
+use Rattle.pdl_pipe_ports.specs.ToldOutputs.{AreThereStages, AreCommits, AreAsked, IsThereCommit, IsThereRequest}
 use Rattle.pdl_pipe_emitted.proofs.SidesStages.{some_of}
 use Rattle.pdl_pipe.specs.Emitted.{AreShownOf}
 use Rattle.pdl_pipe.proofs.DeedNets.{at_bit}

@@ -40,9 +40,9 @@ use Rattle.pdl_pipe_locks.specs.Advised.{advises_in, ExtendsAdvice}
 use Rattle.pdl_pipe_locks.specs.Lawful.{AreLawful, AreUnwritten}
 use Rattle.pdl_pipe_locks.specs.Stepped.{own_of, AreStepped, ExtendsLocks}
 use Rattle.pdl_pipe_locks.specs.Suited.{shapes_in}
-use Rattle.pdl_pipe_outputs.specs.declared.outputs.OutNet.{OutNet}
-use Rattle.pdl_pipe_outputs.specs.declared.outputs.ShownNets.{ShownNets}
-use Rattle.pdl_pipe_outputs.specs.ToldOutputs.{OutsThere, ShowAll, output_of}
+use Rattle.pdl_pipe_ports.specs.declared.outputs.OutNet.{OutNet}
+use Rattle.pdl_pipe_ports.specs.declared.outputs.ShownNets.{ShownNets}
+use Rattle.pdl_pipe_ports.specs.ToldOutputs.{OutsThere, ShowAll, output_of}
 use Rattle.pdl_pipe_emitted.specs.Emitted.{AreDeedsOf, Emission, IsLayout, Nets, inputs_of, name_in}
 
 -- of each stage whether it holds a thread, and whether that moves

@@ -9,7 +9,7 @@ use pdl_pipe_beside::StageEnd;
 use pdl_pipe_locks::StageDeeds;
 use pdl_pipe_nexts::StageLine;
 use pdl_pipe_nexts::line::stage_of;
-use pdl_pipe_outputs::ShownNets;
+use pdl_pipe_ports::ShownNets;
 use std::alloc::Global;
 
 // A net, by its place.

@@ -1,12 +1,8 @@
 // All nets of a pipe, one after the other.
-ghost use Rattle.std.specs.Prelude.{◌≡◌, [], IfOk, length, map};
+ghost use Rattle.std.specs.Prelude.{◌≡◌, [], IfOk, length};
 ghost use Rattle.pdl_word.specs.Each.{Each};
-ghost use Rattle.pdl_form_types.specs.Stmts.{AreWidths};
-ghost use Rattle.pdl_pipe_registers.specs.Stages.{zero_signal};
 ghost use Rattle.pdl_form.specs.FormView.{form};
 ghost use Rattle.pdl_build.specs.Change.{empty_circuit};
-ghost use Rattle.pdl_net.specs.Growth.{Extends};
-ghost use Rattle.pdl_pipe_exprs.specs.Nets.{signals_in, NetsThere};
 ghost use Rattle.pdl_pipe_walk.specs.Locked.{members};
 ghost use Rattle.pdl_pipe_walk.specs.Setting.{TellsTwice};
 ghost use Rattle.pdl_pipe_nexts.specs.Lines.{line_form, IsLineIn};
@@ -21,18 +17,19 @@ use crate::steps::{Standing, set_registers};
 use pdl_build::Builder;
 use pdl_form::FlatPipe;
 use pdl_form_values::all_twice;
-use pdl_kit::{NoMemory, Seq};
+use pdl_kit::NoMemory;
 use pdl_lockapi::LockModule;
 use pdl_net::Net;
 use pdl_order::OrderRegs;
-use pdl_pipe_beside::{BesideRound, order_states, port_states, requests};
+use pdl_pipe_beside::{BesideRound, lay_orders, lay_ports, requests};
 use pdl_pipe_emitted::{MoveNets, all_moves};
 use pdl_pipe_exprs::Bits;
-use pdl_pipe_locks::memories;
+use pdl_pipe_locks::lay_memories;
 use pdl_pipe_nexts::StageLine;
-use pdl_pipe_outputs::{all_outputs, read_inputs, reply_inputs, show};
+use pdl_pipe_ports::{all_outputs, read_inputs, reply_inputs, show};
 use pdl_pipe_registers::tickets::next_tickets;
-use pdl_pipe_registers::{Shared, stages};
+use pdl_pipe_registers::whole::zeros;
+use pdl_pipe_registers::{Shared, lay_stages};
 use pdl_pipe_walk::MemLock;
 use pdl_port::PortRegs;
 use std::alloc::Global;
@@ -117,22 +114,6 @@ fn emit_moves<L: LockModule>(
     emit_steps(alloc, b, &moving, locks, twice, orders, &moves)
 }
 
-// A zero of the width of each variable.
-fn zeros(alloc: Global, b: &mut Builder, pipe: &FlatPipe) -> Result<Seq<Net>, NoMemory>
-    requires wide { AreWidths (form pipe.now).widths }
-    ensures there { IfOk result (λ xs. NetsThere b.new xs) }
-    ensures means { IfOk result (λ xs.
-        signals_in b.new xs ≡ map zero_signal (form pipe.now).widths) }
-    ensures extends { Extends b.old b.new }
-{
-    let mut nets = Seq::new(alloc);
-    for x in 0..pipe.vars() {
-        let net = b.constant(pipe.width(x), 0)?;
-        nets.push(net)?;
-    }
-    Ok(nets)
-}
-
 // A bit that is 0 for each stage.
 fn blank(alloc: Global, bits: Bits, count: usize) -> Result<Vec<Net>, NoMemory>
     ensures count { IfOk result (λ xs. length xs.items ≡ count) }
@@ -159,8 +140,7 @@ fn emit_stages<L: LockModule>(
     ensures { IfOk result (λ ns. IsNamedEmitted (members L.LockModule) b.new
         (form pipe.now) ns.items) }
 {
-    let orders = order_states(alloc, b, pipe)?;
-    let stages = stages(alloc, b, pipe, bits, locks, twice, ports)?;
+    let orders = lay_orders(alloc, b, pipe)?;
     let zeros = zeros(alloc, b, pipe)?;
     let next = next_tickets(alloc, locks, bits.zero)?;
     let shared = Shared {
@@ -169,6 +149,7 @@ fn emit_stages<L: LockModule>(
         next,
         ports,
     };
+    let stages = lay_stages(alloc, b, pipe, &shared, locks, twice)?;
     let blank = blank(alloc, bits, stages.len())?;
     let line = StageLine {
         pipe,
@@ -195,9 +176,9 @@ pub fn emit_all<L: LockModule + Copy>(
 {
     let inputs = reply_inputs(alloc, b, pipe)?;
     let reads = read_inputs(alloc, pipe, inputs.as_slice())?;
-    let made = memories(alloc, b, pipe, locks)?;
+    let made = lay_memories(alloc, b, pipe, locks)?;
     let bits = Bits::new(b)?;
-    let ports = port_states(alloc, b, pipe, reads.as_slice())?;
+    let ports = lay_ports(alloc, b, pipe, reads.as_slice())?;
     let twice = all_twice(alloc, pipe)?;
     let flags = twice.as_slice();
     emit_stages(

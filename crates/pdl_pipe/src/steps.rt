@@ -20,10 +20,10 @@ use pdl_kit::NoMemory;
 use pdl_lockapi::{LockModule, LockNets};
 use pdl_net::Net;
 use pdl_order::OrderRegs;
-use pdl_pipe_beside::{BesideRound, Squashes, StageEnd, order_steps, port_steps};
+use pdl_pipe_beside::{BesideRound, Squashes, StageEnd, set_orders, set_ports};
 use pdl_pipe_emitted::{TailNets, tails};
-use pdl_pipe_locks::{Round as LockRound, advise, step};
-use pdl_pipe_nexts::{StageLine, connect};
+use pdl_pipe_locks::{Round as LockRound, set_advice, set_locks};
+use pdl_pipe_nexts::{StageLine, set_stages};
 use pdl_pipe_walk::MemLock;
 use std::alloc::Global;
 
@@ -46,7 +46,7 @@ pub struct Standing<'a, L> {
 }
 
 // What the arrays of the advisory memories take next, and then the locks.
-fn lock_steps<L: LockModule>(
+fn set_memories<L: LockModule>(
     alloc: Global,
     b: &mut Builder,
     all: &Standing<'_, L>,
@@ -76,8 +76,8 @@ fn lock_steps<L: LockModule>(
         squash: all.squash,
         tails: cut,
     };
-    advise(b, &round)?;
-    let nets = step(alloc, b, &round)?;
+    set_advice(b, &round)?;
+    let nets = set_locks(alloc, b, &round)?;
     Ok(nets)
 }
 
@@ -109,15 +109,15 @@ pub fn set_registers<L: LockModule>(
         all.now.locks.now all.now.orders.now ends.now all.now.squash all.now.squashes
         y.tails y.commits.items) }
 {
-    connect(alloc, b, all.line)?;
+    set_stages(alloc, b, all.line)?;
     let tails = tails(alloc, b, all.line, all.squashes.verify)?;
     let round = BesideRound {
         pipe: all.line.pipe,
         bits: all.line.shared.bits,
         ends,
     };
-    port_steps(alloc, b, &round, all.line.shared.ports)?;
-    order_steps(b, &round, all.squashes, all.orders)?;
-    let commits = lock_steps(alloc, b, all, tails.cut.as_slice())?;
+    set_ports(alloc, b, &round, all.line.shared.ports)?;
+    set_orders(b, &round, all.squashes, all.orders)?;
+    let commits = set_memories(alloc, b, all, tails.cut.as_slice())?;
     Ok(StepNets { tails, commits })
 }

@@ -350,7 +350,7 @@ fn order_at(orders: &[Option<OrderRegs>], fork: usize) -> &Option<OrderRegs>
 }
 
 // The step of the order of a fork, where it has one.
-fn fork_step(
+fn set_order(
     b: &mut Builder,
     round: &BesideRound<'_, '_>,
     squashes: Squashes,
@@ -379,7 +379,7 @@ fn fork_step(
 }
 
 /// What the registers of all orders take next, by what the stages do: which thread goes into which branch, which leaves, and whether a squash removes all. It is called once.
-pub fn order_steps(
+pub fn set_orders(
     b: &mut Builder,
     round: &BesideRound<'_, '_>,
     squashes: Squashes,
@@ -398,7 +398,7 @@ pub fn order_steps(
         (length (form round.now.pipe.now).pipe.stages) b.old b.new }
 {
     for fork in 0..round.pipe.stages().len() {
-        fork_step(b, round, squashes, orders, fork)?;
+        set_order(b, round, squashes, orders, fork)?;
     }
     Ok(())
 }

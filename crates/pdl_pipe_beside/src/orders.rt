@@ -70,7 +70,7 @@ fn order_size(count: usize) -> u8
 }
 
 // The order of a fork, where some stage merges it.
-fn fork_order(
+fn lay_order(
     alloc: Global,
     b: &mut Builder,
     pipe: &FlatPipe,
@@ -90,7 +90,7 @@ fn fork_order(
 }
 
 /// The registers of an order for each fork that some stage merges, by the numbers of the stages that fork, with the nets of its first entry.
-pub fn order_states(
+pub fn lay_orders(
     alloc: Global,
     b: &mut Builder,
     pipe: &FlatPipe,
@@ -104,7 +104,7 @@ pub fn order_states(
 {
     let mut orders = Vec::new(alloc);
     for fork in 0..pipe.stages().len() {
-        let order = fork_order(alloc, b, pipe, fork)?;
+        let order = lay_order(alloc, b, pipe, fork)?;
         orders.push(order)?;
     }
     Ok(orders)

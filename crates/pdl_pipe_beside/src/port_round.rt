@@ -150,7 +150,7 @@ fn port_of(ports: &[Option<PortRegs>], m: usize) -> &PortRegs
 }
 
 // The step of a memory's port, where it is read delayed.
-fn memory_step(
+fn set_port(
     alloc: Global,
     b: &mut Builder,
     round: &BesideRound<'_, '_>,
@@ -178,7 +178,7 @@ fn memory_step(
 }
 
 /// What the registers of all ports take next, by what the stages do: which thread asks, which moves, and which is removed. It is called once.
-pub fn port_steps(
+pub fn set_ports(
     alloc: Global,
     b: &mut Builder,
     round: &BesideRound<'_, '_>,
@@ -196,7 +196,7 @@ pub fn port_steps(
         (length (form round.now.pipe.now).pipe.mems) b.old b.new }
 {
     for m in 0..round.pipe.mems().len() {
-        memory_step(alloc, b, round, ports, m)?;
+        set_port(alloc, b, round, ports, m)?;
     }
     Ok(())
 }

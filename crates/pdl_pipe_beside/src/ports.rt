@@ -64,7 +64,7 @@ fn input_of(inputs: &[Option<PortInput>], m: usize) -> PortInput
 }
 
 // The port of a memory that is read delayed in a stage.
-fn read_port(
+fn lay_port(
     alloc: Global,
     b: &mut Builder,
     pipe: &FlatPipe,
@@ -89,7 +89,7 @@ fn read_port(
 }
 
 // The port of a memory, where it is read delayed.
-fn memory_port(
+fn lay_memory_port(
     alloc: Global,
     b: &mut Builder,
     pipe: &FlatPipe,
@@ -108,7 +108,7 @@ fn memory_port(
         None => Ok(None),
         Some(r) => {
             let input = input_of(inputs, m);
-            let port = read_port(alloc, b, pipe, m, r.stage, input)?;
+            let port = lay_port(alloc, b, pipe, m, r.stage, input)?;
             Ok(Some(port))
         }
     }
@@ -117,7 +117,7 @@ fn memory_port(
 /// The registers of a port for each memory that is read delayed, by the numbers of the memories, with the nets that say whom its answer reaches.
 ///
 /// `inputs` has for each such memory what comes from it.
-pub fn port_states(
+pub fn lay_ports(
     alloc: Global,
     b: &mut Builder,
     pipe: &FlatPipe,
@@ -134,7 +134,7 @@ pub fn port_states(
 {
     let mut ports = Vec::new(alloc);
     for m in 0..pipe.mems().len() {
-        let port = memory_port(alloc, b, pipe, inputs, m)?;
+        let port = lay_memory_port(alloc, b, pipe, inputs, m)?;
         ports.push(port)?;
     }
     Ok(ports)

@@ -67,7 +67,7 @@ fn advise_stage(
 /// The arrays of the advisory memories take the writes of the stages whose threads move.
 ///
 /// The deeds have one for each stage, in order.
-pub fn advise<L: LockModule>(b: &mut Builder, round: &Round<'_, '_, L>) -> Result<(), NoMemory>
+pub fn set_advice<L: LockModule>(b: &mut Builder, round: &Round<'_, '_, L>) -> Result<(), NoMemory>
     requires bits { AreBits b.old round.now.bits }
     requires locked { HasRoundLocks (members L.LockModule) b.old round.now }
     requires deeds { HasRoundDeeds (members L.LockModule) b.old round.now }

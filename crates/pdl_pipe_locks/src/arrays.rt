@@ -35,7 +35,7 @@ pub fn info(m: &FlatMem) -> Result<MemInfo, NoMemory>
 }
 
 // The array of a memory without lock.
-fn plain(b: &mut Builder, m: &FlatMem) -> Result<(), NoMemory>
+fn lay_array(b: &mut Builder, m: &FlatMem) -> Result<(), NoMemory>
     requires typed { IsTypedMem (mem_view m.now) }
     ensures unwritten { OnOk result (write_signals b.new (length b.old.arrays) ≡ []) }
     ensures extends { OnOk result (ExtendsArrays b.old b.new
@@ -47,7 +47,7 @@ fn plain(b: &mut Builder, m: &FlatMem) -> Result<(), NoMemory>
 }
 
 // The registers of a memory's lock, and its array, where it answers at once.
-fn lock_registers<L: LockModule + Copy>(
+fn lay_lock<L: LockModule + Copy>(
     alloc: Global,
     b: &mut Builder,
     m: &FlatMem,
@@ -68,7 +68,7 @@ fn lock_registers<L: LockModule + Copy>(
 }
 
 // The array of a memory that answers at once, and the lock of one that has one.
-fn memory<L: LockModule + Copy>(
+fn lay_memory<L: LockModule + Copy>(
     alloc: Global,
     b: &mut Builder,
     m: &FlatMem,
@@ -88,12 +88,12 @@ fn memory<L: LockModule + Copy>(
     match lock {
         None => {
             if !m.kind.is_delayed() {
-                plain(b, m)?;
+                lay_array(b, m)?;
             }
             Ok(None)
         }
         Some(l) => {
-            let made = lock_registers(alloc, b, m, l)?;
+            let made = lay_lock(alloc, b, m, l)?;
             Ok(Some(made))
         }
     }
@@ -118,7 +118,7 @@ fn lock_at<L>(locks: &[Option<L>], m: usize) -> &Option<L>
 /// An array for each memory that answers at once, in order, and each lock's registers: the lock of each memory that has one, with its part of the circuit.
 ///
 /// `locks` has for each memory the lock that serves it; the circuit has no array before.
-pub fn memories<L: LockModule + Copy>(
+pub fn lay_memories<L: LockModule + Copy>(
     alloc: Global,
     b: &mut Builder,
     pipe: &FlatPipe,
@@ -142,7 +142,7 @@ pub fn memories<L: LockModule + Copy>(
     for m in 0..mems.len() {
         let mem = mem_at(mems, m);
         let lock = lock_at(locks, m);
-        let one = memory(alloc, b, mem, lock)?;
+        let one = lay_memory(alloc, b, mem, lock)?;
         made.push(one)?;
     }
     Ok(made)

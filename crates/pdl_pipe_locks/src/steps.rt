@@ -54,7 +54,7 @@ fn flag_at(twice: &[bool], m: usize) -> bool
 }
 
 // The step of a memory's lock.
-fn lock_step<L: LockModule>(
+fn set_lock<L: LockModule>(
     alloc: Global,
     b: &mut Builder,
     round: &Round<'_, '_, L>,
@@ -108,7 +108,7 @@ fn lock_at<L>(locks: &[Option<MemLock<L>>], m: usize) -> &Option<MemLock<L>>
 }
 
 // The step of a memory's lock, where it has one.
-fn memory_step<L: LockModule>(
+fn set_memory_lock<L: LockModule>(
     alloc: Global,
     b: &mut Builder,
     round: &Round<'_, '_, L>,
@@ -131,7 +131,7 @@ fn memory_step<L: LockModule>(
     match lock_at(round.locks, m) {
         None => Ok(None),
         Some(x) => {
-            let nets = lock_step(alloc, b, round, x, m)?;
+            let nets = set_lock(alloc, b, round, x, m)?;
             Ok(Some(nets))
         }
     }
@@ -140,7 +140,7 @@ fn memory_step<L: LockModule>(
 /// The steps of the locks of all memories, in declared order: the nets of what each memory with a lock commits.
 ///
 /// The deeds have one for each stage, in order; no array of a memory with a lock was written before.
-pub fn step<L: LockModule>(
+pub fn set_locks<L: LockModule>(
     alloc: Global,
     b: &mut Builder,
     round: &Round<'_, '_, L>,
@@ -162,7 +162,7 @@ pub fn step<L: LockModule>(
 {
     let mut nets = Vec::new(alloc);
     for m in 0..round.pipe.mems().len() {
-        let net = memory_step(alloc, b, round, m)?;
+        let net = set_memory_lock(alloc, b, round, m)?;
         nets.push(net)?;
     }
     Ok(nets)

@@ -61,7 +61,7 @@ fn set_stage(b: &mut Builder, s: &StageNets, nets: &[Net])
 }
 
 /// What the registers of all stages take next.
-pub fn connect(alloc: Global, b: &mut Builder, line: &StageLine<'_>) -> Result<(), NoMemory>
+pub fn set_stages(alloc: Global, b: &mut Builder, line: &StageLine<'_>) -> Result<(), NoMemory>
     requires line { IsLineIn b.old line.now }
     requires apart { AreApart 0 (length b.old.regs) line.now.stages.now }
     ensures next { OnOk result ((k : ℕ) (s : Stage) → k < length line.now.stages.now →

@@ -1,6 +1,6 @@
 //! The registers of a pipe's stages, and what each stage begins with: its variables with the answers of a cycle, marks of locations, tickets and the guess.
 //!
-//! The layer above may use `stages`, each with its nets after its statements, `ended`, and `ways_into`.
+//! The layer above may use `lay_stages`, each with its nets after its statements, `ended`, and `ways_into`.
 #![tactic(auto)]
 
 pub mod entry;
@@ -16,4 +16,4 @@ pub use nets::{Earlier, Item, Shared, StageNets, StageRegs};
 pub use pdl_pipe_answers::next_of;
 pub use registers::ended;
 pub use ways::ways_into;
-pub use whole::stages;
+pub use whole::lay_stages;

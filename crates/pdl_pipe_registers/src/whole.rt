@@ -3,34 +3,30 @@ ghost use Rattle.std.specs.Prelude.{◌≡◌, ◌<◌, ◌≤◌, ◌++◌, ◌
 ghost use Rattle.pdl_form.specs.FormView.{form};
 ghost use Rattle.pdl_net.specs.Growth.{Extends};
 ghost use Rattle.pdl_pipe_exprs.specs.Nets.{NetsThere, signals_in};
-ghost use Rattle.pdl_pipe_exprs.specs.Conditions.{AreBits};
 ghost use Rattle.pdl_form_types.specs.Stmts.{IsTypedForm, AreWidths};
 ghost use Rattle.pdl_pipe_walk.specs.Locked.{members, AreLocked, locks_in};
 ghost use Rattle.pdl_pipe_walk.specs.Setting.{TellsTwice};
 ghost use Rattle.pdl_pipe_walk.specs.Sized.{AreWalked};
 ghost use Rattle.pdl_pipe_lives.specs.Needs.{AreNeeds};
-ghost use Rattle.pdl_pipe_answers.specs.Ports.{HasAnswers, answers_in};
+ghost use Rattle.pdl_pipe_answers.specs.Ports.{answers_in};
 ghost use Rattle.pdl_pipe_registers.specs.Stages.{zero_signal, end_of};
 ghost use Rattle.pdl_pipe_registers.specs.Begun.{IsShared, AreEnded};
 ghost use Rattle.pdl_pipe_registers.specs.Staged.{IsStaged, AreStaged, AreApart, next_signals};
 
 use crate::entry::begin;
 use crate::nets::{Earlier, Shared, StageNets};
-use crate::tickets::next_tickets;
 use crate::ways::ways_into;
 use pdl_build::Builder;
 use pdl_form::FlatPipe;
 use pdl_kit::{NoMemory, Seq};
 use pdl_lockapi::LockModule;
 use pdl_net::Net;
-use pdl_pipe_exprs::Bits;
 use pdl_pipe_lives::Needs;
 use pdl_pipe_walk::{MemLock, Setting};
-use pdl_port::PortRegs;
 use std::alloc::Global;
 
-// A zero of the width of each variable.
-fn zeros(alloc: Global, b: &mut Builder, pipe: &FlatPipe) -> Result<Seq<Net>, NoMemory>
+/// A zero of the width of each variable.
+pub fn zeros(alloc: Global, b: &mut Builder, pipe: &FlatPipe) -> Result<Seq<Net>, NoMemory>
     requires wide { AreWidths (form pipe.now).widths }
     ensures there { IfOk result (λ xs. NetsThere b.new xs) }
     ensures means { IfOk result (λ xs.
@@ -46,7 +42,7 @@ fn zeros(alloc: Global, b: &mut Builder, pipe: &FlatPipe) -> Result<Seq<Net>, No
 }
 
 // A stage after those before it, with its statements.
-fn stage<L: LockModule>(
+fn lay_stage<L: LockModule>(
     alloc: Global,
     b: &mut Builder,
     pipe: &FlatPipe,
@@ -103,49 +99,40 @@ fn append<T: Drop>(items: &mut Vec<T>, item: T) -> Result<(), NoMemory>
     Ok(())
 }
 
-/// The stages of a pipe, one after the other, round these locks and ports, where `twice` says of each memory whether some path reserves it twice to write.
-pub fn stages<L: LockModule>(
+/// The stages of a pipe, one after the other, round these locks and what they share, where `twice` says of each memory whether some path reserves it twice to write.
+pub fn lay_stages<L: LockModule>(
     alloc: Global,
     b: &mut Builder,
     pipe: &FlatPipe,
-    bits: Bits,
+    shared: &Shared<'_>,
     locks: &[Option<MemLock<L>>],
     twice: &[bool],
-    ports: &[Option<PortRegs>],
 ) -> Result<Vec<StageNets>, NoMemory>
     requires typed { IsTypedForm (form pipe.now) }
     requires walked { AreWalked (form pipe.now) (form pipe.now).pipe.stmts }
-    requires bits { AreBits b.old bits }
+    requires shared { IsShared b.old (form pipe.now) shared.now }
     requires locks { AreLocked (members L.LockModule) b.old (form pipe.now).pipe locks.now }
     requires twice { TellsTwice (form pipe.now) twice.now }
-    requires ports { HasAnswers b.old (form pipe.now).pipe ports.now }
+    requires next { signals_in b.old shared.now.next ≡ next_signals b.old locks.now }
     requires reserves { length (form pipe.now).pipe.reserves_at ≡ length (form pipe.now).pipe.mems }
     requires releases { length (form pipe.now).pipe.releases_at ≡ length (form pipe.now).pipe.mems }
     ensures count { IfOk result (λ ss. length ss.items ≡ length (form pipe.now).pipe.stages) }
     ensures staged { IfOk result (λ ss.
         AreStaged b.new (form pipe.now) (next_signals b.old locks.now)
-        (answers_in b.old ports.now)
+        (answers_in b.old shared.now.ports.now)
         (locks_in (members L.LockModule) (form pipe.now).pipe b.old locks.now) ss.items) }
     ensures apart { IfOk result (λ ss. AreApart (length b.old.regs) (length b.new.regs) ss.items) }
     ensures extends { Extends b.old b.new }
 {
     let needs = Needs::new(alloc, pipe)?;
-    let blank = zeros(alloc, b, pipe)?;
-    let next = next_tickets(alloc, locks, bits.zero)?;
-    let shared = Shared {
-        bits,
-        zeros: blank,
-        next,
-        ports,
-    };
     let mut stages = Vec::new(alloc);
     let line = pipe.stages();
     for _ in 0..line.len() {
-        let s = stage(
+        let s = lay_stage(
             alloc,
             b,
             pipe,
-            &shared,
+            shared,
             locks,
             twice,
             &needs,

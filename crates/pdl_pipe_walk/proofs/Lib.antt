@@ -1,5 +1,4 @@
 pub mod Lists
-pub mod TwiceFlags
 pub mod NetGrowth
 pub mod Arguments
 pub mod Updates

@@ -6,7 +6,7 @@ use Rattle.std.proofs.Math.Seq.{drop-nil}
 use Rattle.std.proofs.lemmas.List.Sums.{prefix_len-le-length}
 use Rattle.std.proofs.lemmas.List.Folds.{length-prefix_len}
 use Rattle.std.proofs.lemmas.Bool.Decides.{nat_tests}
-use Rattle.std.proofs.lemmas.Bool.{and_parts}
+use Rattle.std.proofs.lemmas.Bool.{and_parts, or_left, cond_both}
 use Rattle.pdl_syntax_tokens.specs.declared.piece.Piece as r
 use Rattle.pdl_syntax_tokens.specs.declared.token.TokenKind.{TokenKind}
 use Rattle.pdl_syntax_tokens.specs.Tokens.{Piece, Spelling, symbols, spelling_at, is_blank, is_lower, is_digit, is_hex, is_word, in_line, number_at, number_or_literal, digits_after, mark_or_bad, piece_at, placed_token, line_after, tokens_from}
@@ -17,10 +17,6 @@ use Rattle.pdl_word.proofs.Lists.{run_least, prefix_fits}
 pub record Sized (p : Piece) (n : ℕ) : Type 0 where
   pub least : 1 ≤ p.size
   pub most : p.size ≤ n
-
-cond_sized : (b : Bool) (p q : Piece) (n : ℕ) → (b ≡ true → Sized p n) → (b ≡ false → Sized q n) → Sized (cond b p q) n
-cond_sized true p q n f g = f refl
-cond_sized false p q n f g = g refl
 
 -- digits with a base of two bytes before them fit, if there are any
 AreWithin : List ℕ → ℕ → Type 0
@@ -91,23 +87,21 @@ symbols_written : are_written symbols ≡ true
 unfolding are_written
 symbols_written = refl
 
-word_is : (c : ℕ) → is_lower c ≡ true → is_word c ≡ true
-word_is c e = rw e refl
-
-comment_is : (c : ℕ) (cs : List ℕ) → starts_with nat_eq (c ∷ cs) (codes "//") ≡ true → in_line c ≡ true
-comment_is c cs e = let k : nat_eq 47 c ≡ true = (and_parts (nat_eq 47 c) (pointwise nat_eq (47 ∷ []) (take 1 cs)) e).0 in
-    let i : 47 ≡ c = grind (arith, nat_tests, k) in subst (λ x. in_line x ≡ true) i refl
+-- what starts with a text has its first byte
+first_same : (a c : ℕ) (text cs : List ℕ) → starts_with nat_eq (c ∷ cs) (a ∷ text) ≡ true → a ≡ c
+first_same a c text cs e =
+    let k : nat_eq a c ≡ true = (and_parts (nat_eq a c) (pointwise nat_eq text (take (length text) cs)) e).0 in grind (arith, nat_tests, k)
 
 -- the piece at the front of bytes has at least 1 of them and at most all
 pub piece_sized : (c : ℕ) (cs : List ℕ) → Sized (piece_at c (c ∷ cs)) (length (c ∷ cs))
 unfolding piece_at
 piece_sized c cs =
     let n = length (c ∷ cs) in
-    cond_sized (is_blank c) _ _ n (λ _. record { least = omega arith; most = omega arith })
-    (λ _. cond_sized (is_lower c) _ _ n (λ e. record { least = run_least is_word c cs (word_is c e); most = prefix_len-le-length is_word (c ∷ cs) })
-    (λ _. cond_sized (is_digit c) _ _ n (λ e. number_sized c cs e)
-    (λ _. cond_sized (starts_with nat_eq (c ∷ cs) (codes "//")) _ _ n
-    (λ e. record { least = run_least in_line c cs (comment_is c cs e); most = prefix_len-le-length in_line (c ∷ cs) })
+    cond_both (is_blank c) _ _ (λ p. Sized p n) (λ _. record { least = omega arith; most = omega arith })
+    (λ _. cond_both (is_lower c) _ _ (λ p. Sized p n) (λ e. record { least = run_least is_word c cs (or_left (is_lower c) _ e); most = prefix_len-le-length is_word (c ∷ cs) })
+    (λ _. cond_both (is_digit c) _ _ (λ p. Sized p n) (λ e. number_sized c cs e)
+    (λ _. cond_both (starts_with nat_eq (c ∷ cs) (codes "//")) _ _ (λ p. Sized p n)
+    (λ e. record { least = run_least in_line c cs (subst (λ b. in_line b ≡ true) (first_same 47 c (47 ∷ []) cs e) refl); most = prefix_len-le-length in_line (c ∷ cs) })
     (λ _. spelling_sized symbols (c ∷ cs) symbols_written (omega arith)))))
 
 -- the size of the piece at the front

@@ -6,7 +6,7 @@ use Rattle.pdl_form.specs.FormView.{form}
 use Rattle.pdl_machine_run.specs.View.{thread_in}
 use Rattle.pdl_machine_run.specs.Acts.{acts_of, are_held, are_moving, one_ends, commits_shown}
 use Rattle.pdl_machine_run.specs.Requests.{requests_shown}
-use Rattle.pdl_machine_run.proofs.PortCounts.{stages_shown, told_counted, commits_most, requests_most}
+use Rattle.pdl_machine_run.proofs.PortCounts.{stages_shown, commits_most, requests_most}
 use Rattle.pdl_machine_run.proofs.Turns.{Turn, turn_of, turn_steps, turn_orders, turn_child, turn_awaits, turn_ports, turn_ready, turn_state, turn_beside, shown_all}
 use Rattle.pdl_machine_run.proofs.cycle.cycle.Goals as goal
 
@@ -215,4 +215,4 @@ pub step_beside-requires-clause-told : goal.step_beside-requires-clause-told
 step_beside-requires-clause-told c =
     let p = (form c.args.pipe.now).pipe in
     let b = c.requires.beside in
-    ap (λ (ts : List Bool). length ts) b.twice ∙ told_counted p.stmts 0 p.mems ∙ sym b.roomy.memories.count
+    ap (λ (ts : List Bool). length ts) b.twice ∙ flag_count p.stmts 0 p.mems ∙ sym b.roomy.memories.count

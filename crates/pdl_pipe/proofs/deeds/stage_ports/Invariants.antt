@@ -2,7 +2,7 @@ use Rattle.std.proofs.Common.{◌≡◌, ◌<◌, ℕ, length}
 use Rattle.std.specs.Prelude.{slice_index_or}
 use Rattle.pdl_net.specs.declared.Net.{Net}
 use Rattle.pdl_net.specs.declared.Net.TheVariants.{Reg as RegNet}
-use Rattle.pdl_pipe_outputs.specs.declared.outputs.ShownNets.{ShownNets}
+use Rattle.pdl_pipe_ports.specs.declared.outputs.ShownNets.{ShownNets}
 use Rattle.pdl_pipe_registers.specs.declared.nets.StageNets.{StageNets}
 use Rattle.pdl_pipe_registers.specs.Stages.{IsAt}
 use Rattle.pdl_pipe.proofs.deeds.stage_ports.Given as goal

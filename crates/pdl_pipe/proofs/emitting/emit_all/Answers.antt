@@ -2,7 +2,7 @@ use Rattle.std.proofs.Common.{sym, ◌∙◌, subst, length, []}
 use Rattle.pdl_net.proofs.Keeps.{extends_refl}
 use Rattle.pdl_form.specs.FormView.{form}
 use Rattle.pdl_pipe_walk.specs.Locked.{members}
-use Rattle.pdl_pipe_outputs.specs.Inputs.{AreReplies}
+use Rattle.pdl_pipe_ports.specs.Inputs.{AreReplies}
 use Rattle.pdl_pipe_beside.specs.Ports.{AreInputs, has_port}
 use Rattle.pdl_pipe_beside.specs.Parts.{AreParts}
 use Rattle.pdl_port.specs.Laws.{own as port_own}
@@ -10,13 +10,13 @@ use Rattle.pdl_pipe.specs.Emitted.{HasMemoriesIn}
 use Rattle.pdl_pipe.proofs.NetlistStart.{empty_shapes, no_arrays, inputs_now, memories_now}
 use Rattle.pdl_pipe.proofs.emitting.emit_all.Goals as goal
 
-pub memories-requires-clause-none : goal.memories-requires-clause-none
-memories-requires-clause-none g c = no_arrays c.reply_inputs.new.b (c.in_ok-inputs.ensures.shapes ∙ empty_shapes c.args.b.now c.requires.empty)
+pub lay_memories-requires-clause-none : goal.lay_memories-requires-clause-none
+lay_memories-requires-clause-none g c = no_arrays c.reply_inputs.new.b (c.in_ok-inputs.ensures.shapes ∙ empty_shapes c.args.b.now c.requires.empty)
 
-pub port_states-requires-clause-inputs : goal.port_states-requires-clause-inputs
-port_states-requires-clause-inputs g c =
+pub lay_ports-requires-clause-inputs : goal.lay_ports-requires-clause-inputs
+lay_ports-requires-clause-inputs g c =
     let a = c.reply_inputs.new.b in
-    let b = c.memories.new.b in
+    let b = c.lay_memories.new.b in
     let d = c.new.new.b in
     let f = form c.args.pipe.now in
     let l = members g.L.LockModule in
@@ -31,9 +31,9 @@ port_states-requires-clause-inputs g c =
 pub emit_stages-requires-clause-memories : goal.emit_stages-requires-clause-memories
 emit_stages-requires-clause-memories g c =
     let a = c.reply_inputs.new.b in
-    let b = c.memories.new.b in
+    let b = c.lay_memories.new.b in
     let d = c.new.new.b in
-    let e = c.port_states.new.b in
+    let e = c.lay_ports.new.b in
     let f = form c.args.pipe.now in
     let l = members g.L.LockModule in
     let xs = c.in_ok-made.made.items in
@@ -49,7 +49,7 @@ emit_stages-requires-clause-memories g c =
     let can = c.requires.can in
     subst (λ ys. HasMemoriesIn l e f c.in_ok-bits.bits ys c.as_slice-4.result.now) (sym c.as_slice-3.ensures.value)
     (subst (HasMemoriesIn l e f c.in_ok-bits.bits xs) (sym c.as_slice-4.ensures.value)
-    (memories_now l g.met.L.LockModule.stays a b d e f c.in_ok-bits.bits xs ins reads qs made.extends c.in_ok-bits.ensures.extends c.port_states.ensures.extends made.locked made.lawful made.unwritten c.in_ok-bits.ensures.bits replies
+    (memories_now l g.met.L.LockModule.stays a b d e f c.in_ok-bits.bits xs ins reads qs made.extends c.in_ok-bits.ensures.extends c.lay_ports.ensures.extends made.locked made.lawful made.unwritten c.in_ok-bits.ensures.bits replies
     (λ m r is. let k = can.reads.known m r is in
     (k.0, k.1)) can.onward c.in_ok-reads.ensures.read parts c.in_ok-ports.ensures.answers c.in_ok-inputs.ensures.ports
     (c.in_ok-inputs.ensures.shapes ∙ empty_shapes c.args.b.now c.requires.empty)))

@@ -11,8 +11,8 @@ use Rattle.pdl_pipe_beside.proofs.OrderSteps.{orders_stand, squashes_keep}
 use Rattle.pdl_pipe_nexts.specs.Lines.{line_form, line_pipe}
 use Rattle.pdl_pipe_nexts.proofs.LineGrowth.{line_keep}
 use Rattle.pdl_pipe_emitted.proofs.pipe_moves.GateParts.{bit_keep}
-use Rattle.pdl_pipe_outputs.specs.ToldOutputs.{AreTold, AreCommits, AreAsked, OutsThere, ShowAll, output_of}
-use Rattle.pdl_pipe_outputs.proofs.RequestPorts.{are_asked}
+use Rattle.pdl_pipe_ports.specs.ToldOutputs.{AreTold, AreCommits, AreAsked, OutsThere, ShowAll, output_of}
+use Rattle.pdl_pipe_ports.proofs.RequestPorts.{are_asked}
 use Rattle.pdl_pipe_emitted.specs.Emitted.{AreEndsOf, Emission, Nets}
 use Rattle.pdl_pipe.specs.Emitted.{AreShownOf, IsEmitted}
 use Rattle.pdl_pipe.proofs.MadeNames.{named_emitted}

@@ -16,182 +16,182 @@ use Rattle.pdl_pipe.proofs.steps.set_registers.Goals as goal
 pub tails-requires-clause-line : goal.tails-requires-clause-line
 tails-requires-clause-line g c =
     let b = c.args.b.now in
-    let e = c.connect.new.b in
+    let e = c.set_stages.new.b in
     let x = c.args.all.now.line.now in
-    let be = but_keeps (regs_of 0 (length b.regs)) b e (c.connect.ensures.extends 0 c.requires.apart) in
+    let be = but_keeps (regs_of 0 (length b.regs)) b e (c.set_stages.ensures.extends 0 c.requires.apart) in
     line_keep b e x be c.requires.line
 
 pub tails-requires-clause-squash : goal.tails-requires-clause-squash
 tails-requires-clause-squash g c =
     let b = c.args.b.now in
-    let e = c.connect.new.b in
-    let be = but_keeps (regs_of 0 (length b.regs)) b e (c.connect.ensures.extends 0 c.requires.apart) in
+    let e = c.set_stages.new.b in
+    let be = but_keeps (regs_of 0 (length b.regs)) b e (c.set_stages.ensures.extends 0 c.requires.apart) in
     width_keeps b e c.args.all.now.squashes.verify 1 be c.requires.squashes.verify
 
-pub port_steps-requires-clause-ends : goal.port_steps-requires-clause-ends
-port_steps-requires-clause-ends g c =
+pub set_ports-requires-clause-ends : goal.set_ports-requires-clause-ends
+set_ports-requires-clause-ends g c =
     let b = c.args.b.now in
-    let e = c.connect.new.b in
+    let e = c.set_stages.new.b in
     let x = c.args.all.now.line.now in
-    let be = but_keeps (regs_of 0 (length b.regs)) b e (c.connect.ensures.extends 0 c.requires.apart) in
+    let be = but_keeps (regs_of 0 (length b.regs)) b e (c.set_stages.ensures.extends 0 c.requires.apart) in
     let f = c.tails.new.b in
     let bf = keeps_trans b e f be (extends_keeps e f c.tails.ensures.extends) in
     ends_keep b f bf (line_form x) c.args.ends.now c.requires.ends
 
-pub port_steps-requires-clause-ports : goal.port_steps-requires-clause-ports
-port_steps-requires-clause-ports g c =
+pub set_ports-requires-clause-ports : goal.set_ports-requires-clause-ports
+set_ports-requires-clause-ports g c =
     let b = c.args.b.now in
-    let e = c.connect.new.b in
+    let e = c.set_stages.new.b in
     let x = c.args.all.now.line.now in
-    let be = but_keeps (regs_of 0 (length b.regs)) b e (c.connect.ensures.extends 0 c.requires.apart) in
+    let be = but_keeps (regs_of 0 (length b.regs)) b e (c.set_stages.ensures.extends 0 c.requires.apart) in
     let f = c.tails.new.b in
     let bf = keeps_trans b e f be (extends_keeps e f c.tails.ensures.extends) in
     ports_stand b f (line_pipe x) x.shared.now.ports.now bf c.requires.ports
 
-pub order_steps-requires-clause-ends : goal.order_steps-requires-clause-ends
-order_steps-requires-clause-ends g c =
+pub set_orders-requires-clause-ends : goal.set_orders-requires-clause-ends
+set_orders-requires-clause-ends g c =
     let b = c.args.b.now in
-    let e = c.connect.new.b in
+    let e = c.set_stages.new.b in
     let x = c.args.all.now.line.now in
-    let be = but_keeps (regs_of 0 (length b.regs)) b e (c.connect.ensures.extends 0 c.requires.apart) in
+    let be = but_keeps (regs_of 0 (length b.regs)) b e (c.set_stages.ensures.extends 0 c.requires.apart) in
     let f = c.tails.new.b in
     let bf = keeps_trans b e f be (extends_keeps e f c.tails.ensures.extends) in
-    let i = c.port_steps.new.b in
-    let fi = c.in_ok-port_steps.ensures.extends.keeps in
+    let i = c.set_ports.new.b in
+    let fi = c.in_ok-set_ports.ensures.extends.keeps in
     let bi = keeps_trans b f i bf fi in
     ends_keep b i bi (line_form x) c.args.ends.now c.requires.ends
 
-pub order_steps-requires-clause-squashes : goal.order_steps-requires-clause-squashes
-order_steps-requires-clause-squashes g c =
+pub set_orders-requires-clause-squashes : goal.set_orders-requires-clause-squashes
+set_orders-requires-clause-squashes g c =
     let b = c.args.b.now in
-    let e = c.connect.new.b in
-    let be = but_keeps (regs_of 0 (length b.regs)) b e (c.connect.ensures.extends 0 c.requires.apart) in
+    let e = c.set_stages.new.b in
+    let be = but_keeps (regs_of 0 (length b.regs)) b e (c.set_stages.ensures.extends 0 c.requires.apart) in
     let f = c.tails.new.b in
     let bf = keeps_trans b e f be (extends_keeps e f c.tails.ensures.extends) in
-    let i = c.port_steps.new.b in
-    squashes_keep b i c.args.all.now.squashes (keeps_trans b f i bf c.in_ok-port_steps.ensures.extends.keeps) c.requires.squashes
+    let i = c.set_ports.new.b in
+    squashes_keep b i c.args.all.now.squashes (keeps_trans b f i bf c.in_ok-set_ports.ensures.extends.keeps) c.requires.squashes
 
-pub order_steps-requires-clause-orders : goal.order_steps-requires-clause-orders
-order_steps-requires-clause-orders g c =
+pub set_orders-requires-clause-orders : goal.set_orders-requires-clause-orders
+set_orders-requires-clause-orders g c =
     let b = c.args.b.now in
-    let e = c.connect.new.b in
+    let e = c.set_stages.new.b in
     let x = c.args.all.now.line.now in
-    let be = but_keeps (regs_of 0 (length b.regs)) b e (c.connect.ensures.extends 0 c.requires.apart) in
+    let be = but_keeps (regs_of 0 (length b.regs)) b e (c.set_stages.ensures.extends 0 c.requires.apart) in
     let f = c.tails.new.b in
     let bf = keeps_trans b e f be (extends_keeps e f c.tails.ensures.extends) in
-    let i = c.port_steps.new.b in
-    let fi = c.in_ok-port_steps.ensures.extends.keeps in
+    let i = c.set_ports.new.b in
+    let fi = c.in_ok-set_ports.ensures.extends.keeps in
     let bi = keeps_trans b f i bf fi in
     orders_stand b i (line_pipe x) c.args.all.now.orders.now bi c.requires.orders
 
-pub lock_steps-requires-clause-line : goal.lock_steps-requires-clause-line
-lock_steps-requires-clause-line g c =
+pub set_memories-requires-clause-line : goal.set_memories-requires-clause-line
+set_memories-requires-clause-line g c =
     let b = c.args.b.now in
-    let e = c.connect.new.b in
+    let e = c.set_stages.new.b in
     let x = c.args.all.now.line.now in
-    let be = but_keeps (regs_of 0 (length b.regs)) b e (c.connect.ensures.extends 0 c.requires.apart) in
+    let be = but_keeps (regs_of 0 (length b.regs)) b e (c.set_stages.ensures.extends 0 c.requires.apart) in
     let f = c.tails.new.b in
     let bf = keeps_trans b e f be (extends_keeps e f c.tails.ensures.extends) in
-    let i = c.port_steps.new.b in
-    let fi = c.in_ok-port_steps.ensures.extends.keeps in
+    let i = c.set_ports.new.b in
+    let fi = c.in_ok-set_ports.ensures.extends.keeps in
     let bi = keeps_trans b f i bf fi in
-    let h = c.order_steps.new.b in
-    let ih = c.in_ok-order_steps.ensures.extends.keeps in
+    let h = c.set_orders.new.b in
+    let ih = c.in_ok-set_orders.ensures.extends.keeps in
     let bh = keeps_trans b i h bi ih in
     let l = members g.L.LockModule in
     let locks = c.args.all.now.locks.now in
     line_keep b h x bh c.requires.line
 
-pub lock_steps-requires-clause-locked : goal.lock_steps-requires-clause-locked
-lock_steps-requires-clause-locked g c =
+pub set_memories-requires-clause-locked : goal.set_memories-requires-clause-locked
+set_memories-requires-clause-locked g c =
     let b = c.args.b.now in
-    let e = c.connect.new.b in
+    let e = c.set_stages.new.b in
     let x = c.args.all.now.line.now in
-    let be = but_keeps (regs_of 0 (length b.regs)) b e (c.connect.ensures.extends 0 c.requires.apart) in
+    let be = but_keeps (regs_of 0 (length b.regs)) b e (c.set_stages.ensures.extends 0 c.requires.apart) in
     let f = c.tails.new.b in
     let bf = keeps_trans b e f be (extends_keeps e f c.tails.ensures.extends) in
-    let i = c.port_steps.new.b in
-    let fi = c.in_ok-port_steps.ensures.extends.keeps in
+    let i = c.set_ports.new.b in
+    let fi = c.in_ok-set_ports.ensures.extends.keeps in
     let bi = keeps_trans b f i bf fi in
-    let h = c.order_steps.new.b in
-    let ih = c.in_ok-order_steps.ensures.extends.keeps in
+    let h = c.set_orders.new.b in
+    let ih = c.in_ok-set_orders.ensures.extends.keeps in
     let bh = keeps_trans b i h bi ih in
     let l = members g.L.LockModule in
     let locks = c.args.all.now.locks.now in
     locked_kept l b h (line_pipe x) locks bh g.met.L.LockModule.stays c.requires.locked
 
-pub lock_steps-requires-clause-lawful : goal.lock_steps-requires-clause-lawful
-lock_steps-requires-clause-lawful g c =
+pub set_memories-requires-clause-lawful : goal.set_memories-requires-clause-lawful
+set_memories-requires-clause-lawful g c =
     let b = c.args.b.now in
-    let e = c.connect.new.b in
+    let e = c.set_stages.new.b in
     let x = c.args.all.now.line.now in
-    let be = but_keeps (regs_of 0 (length b.regs)) b e (c.connect.ensures.extends 0 c.requires.apart) in
+    let be = but_keeps (regs_of 0 (length b.regs)) b e (c.set_stages.ensures.extends 0 c.requires.apart) in
     let f = c.tails.new.b in
     let bf = keeps_trans b e f be (extends_keeps e f c.tails.ensures.extends) in
-    let i = c.port_steps.new.b in
-    let fi = c.in_ok-port_steps.ensures.extends.keeps in
+    let i = c.set_ports.new.b in
+    let fi = c.in_ok-set_ports.ensures.extends.keeps in
     let bi = keeps_trans b f i bf fi in
-    let h = c.order_steps.new.b in
-    let ih = c.in_ok-order_steps.ensures.extends.keeps in
+    let h = c.set_orders.new.b in
+    let ih = c.in_ok-set_orders.ensures.extends.keeps in
     let bh = keeps_trans b i h bi ih in
     let l = members g.L.LockModule in
     let locks = c.args.all.now.locks.now in
     laws_kept l b h (line_pipe x) locks bh c.requires.locked c.requires.lawful
 
-pub lock_steps-requires-clause-unwritten : goal.lock_steps-requires-clause-unwritten
-lock_steps-requires-clause-unwritten g c =
+pub set_memories-requires-clause-unwritten : goal.set_memories-requires-clause-unwritten
+set_memories-requires-clause-unwritten g c =
     let b = c.args.b.now in
-    let e = c.connect.new.b in
+    let e = c.set_stages.new.b in
     let x = c.args.all.now.line.now in
-    let be = but_keeps (regs_of 0 (length b.regs)) b e (c.connect.ensures.extends 0 c.requires.apart) in
+    let be = but_keeps (regs_of 0 (length b.regs)) b e (c.set_stages.ensures.extends 0 c.requires.apart) in
     let f = c.tails.new.b in
     let bf = keeps_trans b e f be (extends_keeps e f c.tails.ensures.extends) in
-    let i = c.port_steps.new.b in
-    let fi = c.in_ok-port_steps.ensures.extends.keeps in
+    let i = c.set_ports.new.b in
+    let fi = c.in_ok-set_ports.ensures.extends.keeps in
     let bi = keeps_trans b f i bf fi in
-    let h = c.order_steps.new.b in
-    let ih = c.in_ok-order_steps.ensures.extends.keeps in
+    let h = c.set_orders.new.b in
+    let ih = c.in_ok-set_orders.ensures.extends.keeps in
     let bh = keeps_trans b i h bi ih in
     let l = members g.L.LockModule in
     let locks = c.args.all.now.locks.now in
     unwritten_kept b h (line_pipe x)
-    (λ k has. c.in_ok-order_steps.ensures.extends.writes k (bi.has_array k has)
-    ∙ c.in_ok-port_steps.ensures.extends.writes k (bf.has_array k has)
+    (λ k has. c.in_ok-set_orders.ensures.extends.writes k (bi.has_array k has)
+    ∙ c.in_ok-set_ports.ensures.extends.writes k (bf.has_array k has)
     ∙ c.tails.ensures.extends.writes k (be.has_array k has)
-    ∙ (c.connect.ensures.extends 0 c.requires.apart).writes k has (inr (omega arith)))
+    ∙ (c.set_stages.ensures.extends 0 c.requires.apart).writes k has (inr (omega arith)))
     c.requires.locked.has_array c.requires.unwritten
 
-pub lock_steps-requires-clause-next : goal.lock_steps-requires-clause-next
-lock_steps-requires-clause-next g c =
+pub set_memories-requires-clause-next : goal.set_memories-requires-clause-next
+set_memories-requires-clause-next g c =
     let b = c.args.b.now in
-    let e = c.connect.new.b in
+    let e = c.set_stages.new.b in
     let x = c.args.all.now.line.now in
-    let be = but_keeps (regs_of 0 (length b.regs)) b e (c.connect.ensures.extends 0 c.requires.apart) in
+    let be = but_keeps (regs_of 0 (length b.regs)) b e (c.set_stages.ensures.extends 0 c.requires.apart) in
     let f = c.tails.new.b in
     let bf = keeps_trans b e f be (extends_keeps e f c.tails.ensures.extends) in
-    let i = c.port_steps.new.b in
-    let fi = c.in_ok-port_steps.ensures.extends.keeps in
+    let i = c.set_ports.new.b in
+    let fi = c.in_ok-set_ports.ensures.extends.keeps in
     let bi = keeps_trans b f i bf fi in
-    let h = c.order_steps.new.b in
-    let ih = c.in_ok-order_steps.ensures.extends.keeps in
+    let h = c.set_orders.new.b in
+    let ih = c.in_ok-set_orders.ensures.extends.keeps in
     let bh = keeps_trans b i h bi ih in
     let l = members g.L.LockModule in
     let locks = c.args.all.now.locks.now in
     next_kept l b h (line_pipe x) locks x.shared.now.next bh c.requires.locked c.requires.line.shared.next_there c.requires.next
 
-pub lock_steps-requires-clause-cut : goal.lock_steps-requires-clause-cut
-lock_steps-requires-clause-cut g c =
+pub set_memories-requires-clause-cut : goal.set_memories-requires-clause-cut
+set_memories-requires-clause-cut g c =
     let b = c.args.b.now in
-    let e = c.connect.new.b in
+    let e = c.set_stages.new.b in
     let x = c.args.all.now.line.now in
-    let be = but_keeps (regs_of 0 (length b.regs)) b e (c.connect.ensures.extends 0 c.requires.apart) in
+    let be = but_keeps (regs_of 0 (length b.regs)) b e (c.set_stages.ensures.extends 0 c.requires.apart) in
     let f = c.tails.new.b in
     let bf = keeps_trans b e f be (extends_keeps e f c.tails.ensures.extends) in
-    let i = c.port_steps.new.b in
-    let fi = c.in_ok-port_steps.ensures.extends.keeps in
+    let i = c.set_ports.new.b in
+    let fi = c.in_ok-set_ports.ensures.extends.keeps in
     let bi = keeps_trans b f i bf fi in
-    let h = c.order_steps.new.b in
-    let ih = c.in_ok-order_steps.ensures.extends.keeps in
+    let h = c.set_orders.new.b in
+    let ih = c.in_ok-set_orders.ensures.extends.keeps in
     let bh = keeps_trans b i h bi ih in
     let l = members g.L.LockModule in
     let locks = c.args.all.now.locks.now in

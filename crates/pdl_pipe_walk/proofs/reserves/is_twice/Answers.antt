@@ -1,6 +1,6 @@
 use Rattle.std.proofs.Common.{◌∙◌, List, Bool, false, length, get_or, ap, arith}
 use Rattle.pdl_form.specs.FormView.{form}
-use Rattle.pdl_pipe_walk.proofs.TwiceFlags.{flag_count, flag_is}
+use Rattle.pdl_law_parts.proofs.TwiceFlags.{flag_count, flag_is}
 use Rattle.pdl_pipe_walk.proofs.reserves.is_twice.Goals as goal
 
 pub bounds-setting-m : goal.bounds-setting-m
