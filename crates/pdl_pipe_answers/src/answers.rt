@@ -76,8 +76,8 @@ fn place_answer(
     }
 }
 
-// The port of a memory that has one.
-pub(crate) fn port_of(ports: &[Option<PortRegs>], m: usize) -> &PortRegs
+/// The port of a memory that has one.
+pub fn port_of(ports: &[Option<PortRegs>], m: usize) -> &PortRegs
     requires low { m < length ports.now }
     requires some { is_some (port_at ports.now m) ≡ true }
     ensures { port_at ports.now m ≡ Some result.now }

@@ -20,8 +20,8 @@ use pdl_pipe_exprs::Bits;
 use pdl_pipe_exprs::exprs::variable;
 use pdl_pipe_walk::{AskNet, WalkNets};
 
-// The request of a number.
-pub(crate) fn ask_at(asks: &[AskNet], i: usize) -> AskNet
+/// The request of a number.
+pub fn ask_at(asks: &[AskNet], i: usize) -> AskNet
     requires { i < length asks.now }
     ensures { result ≡ slice_index_or asks.now i result }
 {

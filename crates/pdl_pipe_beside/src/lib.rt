@@ -3,7 +3,7 @@
 //! The layers above may use `lay_ports` and `lay_orders`, which make registers, `set_ports`, `set_orders` and `requests` round a `BesideRound`, the definitions in specs/, and the lemmas `Beside`, by which ports and orders are what the law of a netlist takes.
 #![tactic(auto)]
 
-mod asks;
+pub mod asks;
 pub mod ends;
 mod free;
 mod order_round;

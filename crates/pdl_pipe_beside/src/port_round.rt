@@ -1,5 +1,5 @@
 // What the registers of ports take next.
-ghost use Rattle.std.specs.Prelude.{◌≡◌, ◌<◌, ℕ, Some, true, IfOk, OnOk, is_some, length, slice_index};
+ghost use Rattle.std.specs.Prelude.{◌≡◌, ◌<◌, ℕ, IfOk, OnOk, length, slice_index};
 ghost use Rattle.pdl_form.specs.FormView.{form};
 ghost use Rattle.pdl_form.specs.View.{next_view};
 ghost use Rattle.pdl_form_types.specs.Stmts.{AreForks};
@@ -13,7 +13,6 @@ ghost use Rattle.pdl_port.specs.Laws.{own as port_own};
 ghost use Rattle.pdl_pipe_exprs.specs.Conditions.{AreBits};
 ghost use Rattle.pdl_machine_inflight.specs.Readings.{places_of, places, place_at};
 ghost use Rattle.pdl_pipe_answers.specs.Readings.{reading_view};
-ghost use Rattle.pdl_pipe_walk.specs.Locked.{some_at};
 ghost use Rattle.pdl_pipe_beside.specs.Parts.{own_at, ExtendsParts};
 ghost use Rattle.pdl_pipe_beside.specs.Ports.{ReadsLeadOn, StandPorts};
 ghost use Rattle.pdl_pipe_beside.specs.Ends.{ends_in, moves_in, kills_in, AreEnds};
@@ -23,10 +22,10 @@ use crate::asks::{asks_memory, goes_to_place};
 use crate::ends::{BesideRound, end_at};
 use crate::ports::place_count;
 use pdl_build::Builder;
-use pdl_form::{FlatPipe, Next};
+use pdl_form::Next;
 use pdl_kit::{NoMemory, Seq};
 use pdl_net::Net;
-use pdl_pipe_answers::{Reading, next_of, read_delayed};
+use pdl_pipe_answers::{Reading, next_of, port_of, read_delayed};
 use pdl_port::{PortRegs, PortStep, emit_port_step};
 use std::alloc::Global;
 
@@ -135,18 +134,6 @@ fn step_nets(
         moves,
         removed,
     })
-}
-
-// The port of a memory that has one.
-fn port_of(ports: &[Option<PortRegs>], m: usize) -> &PortRegs
-    requires low { m < length ports.now }
-    requires some { is_some (some_at ports.now m) ≡ true }
-    ensures { some_at ports.now m ≡ Some result.now }
-{
-    match &ports[m] {
-        Some(port) => port,
-        None => unreachable!(),
-    }
 }
 
 // The step of a memory's port, where it is read delayed.

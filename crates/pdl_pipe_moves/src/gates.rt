@@ -1,5 +1,5 @@
 // Whether what stands beside the stages lets a thread move.
-ghost use Rattle.std.specs.Prelude.{◌≡◌, ◌<◌, IfOk, length, map, slice_index_or};
+ghost use Rattle.std.specs.Prelude.{◌≡◌, ◌<◌, IfOk, map};
 ghost use Rattle.pdl_form.specs.FormView.{form};
 ghost use Rattle.pdl_semantics.specs.Stages.{verify_stage};
 ghost use Rattle.pdl_semantics.specs.Updates.{squash_stages};
@@ -20,6 +20,7 @@ use pdl_kit::NoMemory;
 use pdl_net::Net;
 use pdl_pipe_answers::both_bits;
 use pdl_pipe_beside::Squashes;
+use pdl_pipe_beside::asks::ask_at;
 use pdl_pipe_exprs::Bits;
 use pdl_pipe_exprs::exprs::variable;
 use pdl_pipe_walk::AskNet;
@@ -97,14 +98,6 @@ pub fn barrier_open(
         }
         _ => Ok(bits.one),
     }
-}
-
-// A request, by its place.
-fn ask_at(asks: &[AskNet], i: usize) -> AskNet
-    requires { i < length asks.now }
-    ensures { result ≡ slice_index_or asks.now i result }
-{
-    asks[i]
 }
 
 /// Whether the port of each delayed read on the thread's path is free; `frees` tells of each memory whether its port is.

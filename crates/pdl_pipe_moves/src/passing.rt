@@ -1,9 +1,8 @@
 // Stages from the last one down: whether the thread of each moves.
-ghost use Rattle.std.specs.Prelude.{◌≡◌, ℕ, ◌<◌, ◌≤◌, ◌+◌, true, IfOk, OnOk, Some, is_some, length, slice_set};
+ghost use Rattle.std.specs.Prelude.{◌≡◌, ℕ, ◌<◌, ◌≤◌, ◌+◌, IfOk, OnOk, length, slice_set};
 ghost use Rattle.pdl_net.specs.Growth.{Extends};
 ghost use Rattle.pdl_squash.specs.Laws.{net_at};
 ghost use Rattle.pdl_pipe_beside.specs.Ports.{StandPorts};
-ghost use Rattle.pdl_pipe_walk.specs.Locked.{some_at};
 ghost use Rattle.pdl_pipe_nexts.specs.Lines.{line_pipe, IsLineIn};
 ghost use Rattle.pdl_pipe_moves.specs.Inside.{LeadsInside};
 ghost use Rattle.pdl_pipe_moves.specs.Signs.{signs_by, IsControlled};
@@ -14,10 +13,9 @@ use crate::moving::stage_moves;
 use pdl_build::Builder;
 use pdl_kit::{NoMemory, Seq};
 use pdl_net::Net;
-use pdl_pipe_answers::read_delayed;
+use pdl_pipe_answers::{port_of, read_delayed};
 use pdl_pipe_beside::port_free;
 use pdl_pipe_nexts::StageLine;
-use pdl_port::PortRegs;
 use std::alloc::Global;
 
 /// Of a stage: whether its thread moves, 1 bit, and of each memory whether its port is free for a delayed read there, 1 bit each.
@@ -32,18 +30,6 @@ pub struct Passage {
 pub struct Passages {
     pub moves: Vec<Net>,
     pub frees: Vec<Seq<Net>>,
-}
-
-// The port of a memory that has one.
-fn port_of(ports: &[Option<PortRegs>], m: usize) -> &PortRegs
-    requires low { m < length ports.now }
-    requires some { is_some (some_at ports.now m) ≡ true }
-    ensures { some_at ports.now m ≡ Some result.now }
-{
-    match &ports[m] {
-        Some(port) => port,
-        None => unreachable!(),
-    }
 }
 
 // Whether the port of a memory is free for the thread of stage k; 1 where that doesn't read it.

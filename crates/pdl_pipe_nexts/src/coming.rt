@@ -33,8 +33,8 @@ fn brings(b: &Builder, line: &StageLine<'_>, j: usize, what: Option<Item>) -> Ne
     }
 }
 
-// An arrival, by its place.
-fn arrival_at(arrivals: &[Arrival], i: usize) -> Arrival
+/// An arrival, by its place.
+pub fn arrival_at(arrivals: &[Arrival], i: usize) -> Arrival
     requires { i < length arrivals.now }
     ensures { result ≡ slice_index_or arrivals.now i result }
 {

@@ -20,15 +20,8 @@ use pdl_pipe_exprs::exprs::variable;
 use pdl_pipe_lives::has_lock;
 use pdl_pipe_nexts::StageLine;
 use pdl_pipe_nexts::arrivals::{Arrival, threads_into};
+use pdl_pipe_nexts::coming::arrival_at;
 use std::alloc::Global;
-
-// A thread that may come, by its place.
-fn arrival_at(arrivals: &[Arrival], i: usize) -> Arrival
-    requires { i < length arrivals.now }
-    ensures { result ≡ slice_index_or arrivals.now i result }
-{
-    arrivals[i]
-}
 
 /// The tails of an earlier stage.
 pub(crate) fn row_at<'a>(before: &'a [Seq<Net>], k: usize) -> &'a Seq<Net>
