@@ -9,7 +9,7 @@ use Rattle.std.proofs.lemmas.Bool.Decides.{nat_tests}
 use Rattle.std.proofs.lemmas.Bool.{and_parts, or_left, cond_both}
 use Rattle.pdl_syntax_tokens.specs.declared.piece.Piece as r
 use Rattle.pdl_syntax_tokens.specs.declared.token.TokenKind.{TokenKind}
-use Rattle.pdl_syntax_tokens.specs.Tokens.{Piece, Spelling, symbols, spelling_at, is_blank, is_lower, is_digit, is_hex, is_word, in_line, number_at, number_or_literal, digits_after, mark_or_bad, piece_at, placed_token, line_after, tokens_from}
+use Rattle.pdl_syntax_tokens.specs.Tokens.{Piece, Spelling, symbols, spelling_at, is_blank, is_lower, is_digit, is_hex, is_word, in_line, blank_of, word_at, number_at, number_or_literal, digits_after, mark_or_bad, piece_at, placed_token, line_after, tokens_from}
 use Rattle.pdl_syntax_tokens.specs.Pieces.{piece_view, IsFront, IsLineAfter}
 use Rattle.pdl_word.proofs.Lists.{run_least, prefix_fits}
 
@@ -96,13 +96,22 @@ first_same a c text cs e =
 pub piece_sized : (c : ℕ) (cs : List ℕ) → Sized (piece_at c (c ∷ cs)) (length (c ∷ cs))
 unfolding piece_at
 piece_sized c cs =
-    let n = length (c ∷ cs) in
-    cond_both (is_blank c) _ _ (λ p. Sized p n) (λ _. record { least = omega arith; most = omega arith })
-    (λ _. cond_both (is_lower c) _ _ (λ p. Sized p n) (λ e. record { least = run_least is_word c cs (or_left (is_lower c) _ e); most = prefix_len-le-length is_word (c ∷ cs) })
-    (λ _. cond_both (is_digit c) _ _ (λ p. Sized p n) (λ e. number_sized c cs e)
-    (λ _. cond_both (starts_with nat_eq (c ∷ cs) (codes "//")) _ _ (λ p. Sized p n)
-    (λ e. record { least = run_least in_line c cs (subst (λ b. in_line b ≡ true) (first_same 47 c (47 ∷ []) cs e) refl); most = prefix_len-le-length in_line (c ∷ cs) })
-    (λ _. spelling_sized symbols (c ∷ cs) symbols_written (omega arith)))))
+    let bytes = c ∷ cs in
+    let n = length bytes in
+    let mark : Piece = mark_or_bad (spelling_at symbols bytes) in
+    let comment : Piece = cond (starts_with nat_eq bytes (codes "//")) (blank_of (prefix_len in_line bytes)) mark in
+    let number : Piece = cond (is_digit c) (number_at bytes) comment in
+    let word : Piece = cond (is_lower c) (word_at bytes) number in
+    cond_both (is_blank c) (blank_of 1) word (λ p. Sized p n) (λ _. record { least = omega arith; most = omega arith })
+    (λ _. cond_both (is_lower c) (word_at bytes) number (λ p. Sized p n)
+    (λ e. record { least = run_least is_word c cs (or_left (is_lower c) _ e); most = prefix_len-le-length is_word bytes })
+    (λ _. cond_both (is_digit c) (number_at bytes) comment (λ p. Sized p n) (λ e. number_sized c cs e)
+    (λ _. cond_both (starts_with nat_eq bytes (codes "//")) (blank_of (prefix_len in_line bytes)) mark (λ p. Sized p n)
+    (λ e. record {
+      least = run_least in_line c cs (subst (λ b. in_line b ≡ true) (first_same 47 c (47 ∷ []) cs e) refl);
+      most = prefix_len-le-length in_line bytes;
+    })
+    (λ _. spelling_sized symbols bytes symbols_written (omega arith)))))
 
 -- the size of the piece at the front
 pub piece_fits : (bytes : List ℕ) (p : r.Piece) → IsFront bytes (Some p) → (1 ≤ p.size) × (p.size ≤ length bytes)
