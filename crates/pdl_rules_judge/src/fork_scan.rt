@@ -45,7 +45,7 @@ fn rule_of(asked: ForkRule) -> Rule
 }
 
 // Whether a place breaks the rule, with these places before it and these after it.
-#[tactic(auto, unfolding(crate::specs::Order::breaks_fork_rule))]
+#[tactic(auto, unfolding(crate::specs::ForkOrder::breaks_fork_rule))]
 fn breaks_rule(
     asked: ForkRule,
     pipe: &Pipe,
