@@ -71,7 +71,7 @@ fn breaks_rule(
 }
 
 // The line of the first place that breaks the rule.
-#[tactic(auto, unfolding(crate::specs::Order::broken_line))]
+#[tactic(auto, unfolding(crate::specs::ForkOrder::broken_line))]
 fn broken_line(asked: ForkRule, pipe: &Pipe, all: &[Place<'_>]) -> Option<u32>
     requires { spec.places (pipe_view pipe.now) ≡ map place_view all.now }
     ensures { result ≡ ordered.broken_line asked (pipe_view pipe.now) (map place_view all.now) }
