@@ -1,12 +1,14 @@
 //! Netlists: ports, registers, arrays and cells, what their nets mean, which are well formed, and that nets keep their values when more is added.
 //!
-//! The layers above may use its types and definitions, `Netlist::width`, and the lemmas on nets that are kept (`Keeps`).
+//! The layers above may use its types and definitions, `Netlist::width`, `all_widths` and `width_of`, and the lemmas on nets that are kept (`Keeps`).
 #![tactic(auto)]
 
 mod width;
+mod widths;
 
 use pdl_kit::{MemInfo, Name, Seq};
 use pdl_word::Word;
+pub use widths::{all_widths, width_of};
 
 /// What a cell, a register, an array or an output reads: an input, a register or a cell, each counted from 0.
 ///

@@ -16,10 +16,9 @@ use crate::operation::{CellKind, CellOperands};
 use crate::order::CellOrder;
 use crate::run_kind::run_kind;
 use crate::walk::CellRun;
-use crate::widths::width_of;
 use crate::writes::PlannedWrite;
 use pdl_kit::NoMemory;
-use pdl_net::{Cell, Dir, Netlist, WritePort};
+use pdl_net::{Cell, Dir, Netlist, WritePort, width_of};
 use pdl_word::Word;
 use std::alloc::Global;
 

@@ -7,7 +7,6 @@ mod cells;
 mod declarations;
 mod drives;
 mod text;
-mod widths;
 pub mod write;
 
 pub use write::write_verilog;

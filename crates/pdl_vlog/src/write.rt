@@ -9,9 +9,8 @@ use crate::cells::input_names;
 use crate::declarations::{arrays, cells, head, regs};
 use crate::drives::{array_blocks, blocks, outputs};
 use crate::text::Text;
-use crate::widths::all_widths;
 use pdl_kit::{Name, NoMemory};
-use pdl_net::Netlist;
+use pdl_net::{Netlist, all_widths};
 use std::alloc::Global;
 
 // The first line, and all that is declared.

@@ -5,12 +5,12 @@ ghost use Rattle.pdl_net.specs.Meaning.{cell_signal, signal, IsThereAt};
 ghost use Rattle.pdl_net.specs.Well.{IsWell, FitsIn};
 ghost use Rattle.pdl_net.specs.Width.{HasWidths};
 
+use crate::{BinOp, Cell, Net, Netlist};
 use pdl_kit::NoMemory;
-use pdl_net::{BinOp, Cell, Net, Netlist};
 use std::alloc::Global;
 
 /// The widths of all cells.
-#[tactic(auto, using(pdl_net::proofs::WidthLists::widths))]
+#[tactic(auto, using(crate::proofs::WidthLists::widths))]
 pub fn all_widths(alloc: Global, n: &Netlist) -> Result<Vec<u8>, NoMemory>
     requires { IsWell (circuit_of n.now) }
     ensures widths { IfOk result (λ ws. HasWidths (circuit_of n.now) ws.items) }
@@ -26,7 +26,7 @@ pub fn all_widths(alloc: Global, n: &Netlist) -> Result<Vec<u8>, NoMemory>
 }
 
 // A cell's width, over the widths of the cells before it.
-#[tactic(auto, using(pdl_net::proofs::WidthLists::array_widths))]
+#[tactic(auto, using(crate::proofs::WidthLists::array_widths))]
 fn cell_width(n: &Netlist, widths: &[u8], cell: Cell) -> u8
     requires well { IsWell (circuit_of n.now) }
     requires widths { HasWidths (circuit_of n.now) widths.now }
@@ -50,7 +50,7 @@ fn cell_width(n: &Netlist, widths: &[u8], cell: Cell) -> u8
 }
 
 // An array's width.
-#[tactic(auto, using(pdl_net::proofs::WidthLists::array_widths))]
+#[tactic(auto, using(crate::proofs::WidthLists::array_widths))]
 fn array_width(n: &Netlist, array: usize) -> u8
     requires { array < length n.now.arrays }
     ensures { result ≡ (array_at (circuit_of n.now) array).width }
@@ -59,9 +59,9 @@ fn array_width(n: &Netlist, array: usize) -> u8
     a.width
 }
 
-// The width of a net in bits, over the widths of the first cells.
-#[tactic(auto, using(pdl_net::proofs::WidthLists::reads))]
-fn width_of(n: &Netlist, widths: &[u8], net: Net) -> u8
+/// The width of a net in bits, over the widths of the first cells.
+#[tactic(auto, using(crate::proofs::WidthLists::reads))]
+pub fn width_of(n: &Netlist, widths: &[u8], net: Net) -> u8
     requires well { IsWell (circuit_of n.now) }
     requires widths { HasWidths (circuit_of n.now) widths.now }
     requires earlier { length widths.now ≤ length n.now.cells }
