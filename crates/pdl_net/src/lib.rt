@@ -4,11 +4,11 @@
 #![tactic(auto)]
 
 mod width;
-mod widths;
+mod cell_widths;
 
 use pdl_kit::{MemInfo, Name, Seq};
 use pdl_word::Word;
-pub use widths::{all_widths, width_of};
+pub use cell_widths::{all_widths, width_of};
 
 /// What a cell, a register, an array or an output reads: an input, a register or a cell, each counted from 0.
 ///
