@@ -3,12 +3,12 @@
 //! The layers above may use its types and definitions, `Netlist::width`, `all_widths` and `width_of`, and the lemmas on nets that are kept (`Keeps`).
 #![tactic(auto)]
 
-mod width;
 mod cell_widths;
+mod width;
 
+pub use cell_widths::{all_widths, width_of};
 use pdl_kit::{MemInfo, Name, Seq};
 use pdl_word::Word;
-pub use cell_widths::{all_widths, width_of};
 
 /// What a cell, a register, an array or an output reads: an input, a register or a cell, each counted from 0.
 ///
