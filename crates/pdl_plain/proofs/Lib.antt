@@ -1,0 +1,5 @@
+pub mod SignedWords
+pub mod RequestCases
+pub mod HeldTimes
+pub mod Separators
+pub mod LetterBits

@@ -1,0 +1,5 @@
+pub mod Signed
+pub mod Requests
+pub mod HeldLocations
+pub mod StagesByText
+pub mod LetterPlaces
