@@ -79,6 +79,7 @@ before_is s env (x ∷ xs) ls m a =
     let e : all_hold x.guards env ≡ is_on (path_of env) x = on_is x.guards env in
     grind (arith, e, before_is s env xs ls m a, before_is s env xs (held_after x.op ls) m a, after_is x.op ls m a)
 
+-- what is held before a stage, as often as the statements before say
 pub holds_before : HoldsBefore
 holds_before s env xs m a = held_is (held_before s env xs []) m a ∙ ap (nat_lt 0) (before_is s env xs [] m a)
 
@@ -178,6 +179,7 @@ all_marks read [] d before h = sym (append-nil _)
 all_marks read (x ∷ xs) d before h =
     marks_by read x xs d before h (λ e past k. all_marks read xs e past k) (all_hold x.guards d.env) refl
 
+-- what the blocks of a stage tell, by the statements before each
 pub marks_blocks : MarksBlocks
 marks_blocks read p s t =
     all_marks read (in_stage s p.stmts) (begun p s t) (passed s (path_of t.env) p.stmts) (λ m a. before_is s t.env p.stmts [] m a)

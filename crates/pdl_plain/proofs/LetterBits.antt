@@ -101,5 +101,6 @@ at_each : (value : ℕ → ℕ) (bits : List ℕ) (c : ℕ)
 at_each value [] c = refl
 at_each value (x ∷ right) c = at_one value c x right (at_each value right c) (x == c) refl
 
+-- the word of bits has each letter's bits at its places
 pub has_each : HasEachLetter
 has_each value bits = record { below = below value bits; at = at_each value bits }

@@ -49,6 +49,7 @@ by_cases sq NoRequest false [] = refl
 by_cases sq (Owned t a) false [] = left_owned sq t a
 by_cases sq (Orphan a) false [] = refl
 
+-- what a cycle leaves of a request is told by cases
 pub leaves : LeavesRequest
 leaves p st bits these m h =
     at_its_mem (λ k. request_left (squasher (movers these)) (request_next p st bits (movers these) k)) NoRequest m p.mems h

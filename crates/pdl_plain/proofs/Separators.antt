@@ -11,9 +11,11 @@ last_from begun found bs [] = refl
 last_from begun found bs (x ∷ xs) =
     grind (arith, last_from begun found bs xs, last_from (suc begun) found bs xs, last_from (suc begun) (suc begun) bs xs)
 
+-- the stage of a place is that of the last separator around it
 pub last : BeginsLast
 last before bs = last_from 0 0 bs before
 
+-- the next stage on a path is that of the next separator on it
 pub next : BeginsNext
 next path begun [] = refl
 next path begun (x ∷ xs) = grind (arith, next path begun xs, next path (suc begun) xs)

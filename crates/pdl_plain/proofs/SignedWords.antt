@@ -34,6 +34,7 @@ centred w a l h =
 same_order : (x y c : ℕ) → nat_lt x y ≡ int_lt (pos x -ℤ pos c) (pos y -ℤ pos c)
 same_order x y c = grind (arith, ints)
 
+-- `lts` compares whole numbers
 pub compares : ComparesNumbers
 unfolding lts
 compares w a b l h k = rw (centred w a l h, centred w b l k) (ap bit (same_order (sign_shifted w a) (sign_shifted w b) (2 ^ (w - 1))))
@@ -56,6 +57,7 @@ one_word w x y l h k e =
 extended : (w n a : ℕ) → 1 ≤ n → sext w n a < 2 ^ n → to_signed n (sext w n a) ≡ to_signed w a → IsExtended w n a
 extended w n a l h e = record { below = h; same = e; only = λ x k f. one_word n x (sext w n a) l k h (f ∙ sym e) }
 
+-- `sext` keeps the whole number, and nothing else does
 pub extends : ExtendsNumbers
 extends w n a l h k =
     elim (cases_lt a (2 ^ (w - 1))) [

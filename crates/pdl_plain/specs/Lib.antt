@@ -3,3 +3,4 @@ pub mod Requests
 pub mod HeldLocations
 pub mod StagesByText
 pub mod LetterPlaces
+pub mod NetlistTexts

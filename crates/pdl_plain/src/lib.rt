@@ -8,6 +8,7 @@ ghost use Rattle.pdl_plain.specs.Requests.{LeavesRequest};
 ghost use Rattle.pdl_plain.specs.HeldLocations.{HoldsBefore, MarksBlocks};
 ghost use Rattle.pdl_plain.specs.StagesByText.{BeginsLast, BeginsNext};
 ghost use Rattle.pdl_plain.specs.LetterPlaces.{HasEachLetter};
+ghost use Rattle.pdl_plain.specs.NetlistTexts.{ReadsFile};
 
 /// Signed words are whole numbers: `lts` compares these, and `sext` is the wider word of the same number.
 pub fn signed_words()
@@ -35,4 +36,9 @@ pub fn stages_by_text()
 /// The word of an instruction has the bits of each letter at the letter's places.
 pub fn letter_places()
     ensures each { HasEachLetter }
+{}
+
+/// A text whose tokens are those of a file, line by line of the grammar, is read as that file by the table.
+pub fn netlist_texts()
+    ensures reads { ReadsFile }
 {}
