@@ -75,16 +75,19 @@ with_first x ps qs g c h k ts d a i =
     (record { file = i.file; writes = i.writes; line_is = i.line_is; name_is = i.name_is; high_is = i.high_is; target_is = i.target_is }))
 
 -- the brace that begins a term
-with_brace : (ps : List Piece) (g : File) (c : CellDecl) (h : File) → ReadsTerm part.Braced ps g c h → ReadsTerm part.Term (word (codes "{") ∷ ps) g c h
+with_brace : (ps : List Piece) (g : File) (c : CellDecl) (h : File)
+    → ReadsTerm part.Braced ps g c h → ReadsTerm part.Term (word (codes "{") ∷ ps) g c h
 with_brace ps g c h k ts d a i =
     takes part.Term rule.OpenTerm (word (codes "{") ∷ []) ps ts d h (by_word part.Term rule.OpenTerm (codes "{") brace_chosen)
     (at_word f.OpenBrace (codes "{") refl, tt) a (λ front back m n. k back d n i)
 
-const_value : (w v : ℕ) (begun : List ℕ) (front : Row) → AreTokens (const w v ∷ word (codes ";") ∷ []) front → term begun rule.ConstTerm front ≡ t.Const w v
+const_value : (w v : ℕ) (begun : List ℕ) (front : Row)
+    → AreTokens (const w v ∷ word (codes ";") ∷ []) front → term begun rule.ConstTerm front ≡ t.Const w v
 const_value w v begun _ (one_more (is_const e) i) =
     ap (λ (o : Option Constant). t.Const (unwrap_or o (record { width = 0; value = 0 })).width (unwrap_or o (record { width = 0; value = 0 })).value) e
 
-not_value : (a begun : List ℕ) (front : Row) → AreTokens (word (codes "~") ∷ id a ∷ word (codes ";") ∷ []) front → term begun rule.NotTerm front ≡ t.Not a
+not_value : (a begun : List ℕ) (front : Row)
+    → AreTokens (word (codes "~") ∷ id a ∷ word (codes ";") ∷ []) front → term begun rule.NotTerm front ≡ t.Not a
 not_value a begun _ (one_more is_word (one_more (is_named e) i)) = refl
 
 bin_value : (o : BinOp) (a b begun : List ℕ) (front : Row) → begun ≡ a → AreTokens (op o ∷ id b ∷ word (codes ";") ∷ []) front
@@ -92,7 +95,8 @@ bin_value : (o : BinOp) (a b begun : List ℕ) (front : Row) → begun ≡ a →
 bin_value o a b begun _ q (one_more (is_op e) (one_more (is_named k) i)) =
     ap (λ (x : Option BinOp). t.Bin (unwrap_or x Add) begun b) e ∙ ap (λ x. t.Bin o x b) q
 
-mux_value : (c a b begun : List ℕ) (front : Row) → begun ≡ c → AreTokens (word (codes "?") ∷ id a ∷ word (codes ":") ∷ id b ∷ word (codes ";") ∷ []) front
+mux_value : (c a b begun : List ℕ) (front : Row)
+    → begun ≡ c → AreTokens (word (codes "?") ∷ id a ∷ word (codes ":") ∷ id b ∷ word (codes ";") ∷ []) front
     → term begun rule.MuxTerm front ≡ t.Mux c a b
 mux_value c a b begun _ q (one_more is_word (one_more (is_named e) (one_more is_word (one_more (is_named k) i)))) = ap (λ x. t.Mux x a b) q
 
@@ -112,7 +116,8 @@ rep_value : (n : ℕ) (a begun : List ℕ) (front : Row)
     → term begun rule.RepTerm front ≡ t.Rep n a
 rep_value n a begun _ (one_more (is_num e) (one_more is_word (one_more (is_named k) i))) = ap (λ (o : Option ℕ). t.Rep (unwrap_or o 0) a) e
 
-read_value : (m a begun : List ℕ) (front : Row) → AreTokens (name is_array m ∷ word (codes "[") ∷ id a ∷ word (codes "]") ∷ word (codes ";") ∷ []) front
+read_value : (m a begun : List ℕ) (front : Row)
+    → AreTokens (name is_array m ∷ word (codes "[") ∷ id a ∷ word (codes "]") ∷ word (codes ";") ∷ []) front
     → term begun rule.ReadTerm front ≡ t.Read m a
 read_value m a begun _ (one_more (is_named e) (one_more is_word (one_more (is_named k) i))) = refl
 

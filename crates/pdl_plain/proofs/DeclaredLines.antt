@@ -93,7 +93,8 @@ output_chosen : chosen part.Direction (codes "output") ≡ Some rule.OutputPort
 unfolding chosen
 output_chosen = refl
 
-port_by : (b : Bool) (line : ℕ) (x : List ℕ) (high : ℕ) (qs : List Piece) (g h : File) → Reads part.Ports qs (add_port g (port line x high b)) h
+port_by : (b : Bool) (line : ℕ) (x : List ℕ) (high : ℕ) (qs : List Piece) (g h : File)
+    → Reads part.Ports qs (add_port g (port line x high b)) h
     → Reads part.Direction (port_tail line (if b then codes "input" else codes "output") x high ++ qs) g h
 port_by true line x high qs g h k ts d a e w =
     takes part.Direction rule.InputPort (port_tail line (codes "input") x high) qs ts d h (by_first part.Direction rule.InputPort line (codes "input") input_chosen)
@@ -138,7 +139,8 @@ high_value : (line high : ℕ) (x : List ℕ) (front : Row) → AreTokens (first
 high_value line high x _ (one_more is_first (one_more is_word (one_more (is_num e) i))) = ap (λ (o : Option ℕ). unwrap_or o 0) e
 
 -- the bytes of a first token that is a name
-pub name_value : (kind : List ℕ → Bool) (x : List ℕ) (ps : List Piece) (front : Row) → AreTokens (name kind x ∷ ps) front → text_at front 0 ≡ x
+pub name_value : (kind : List ℕ → Bool) (x : List ℕ) (ps : List Piece) (front : Row)
+    → AreTokens (name kind x ∷ ps) front → text_at front 0 ≡ x
 name_value kind x ps _ (one_more (is_named e) i) = refl
 
 reg_chosen : (x : List ℕ) (t : Token) → IsPiece (name is_reg x) t → chosen part.Declared t.text ≡ Some rule.RegDeclared

@@ -27,7 +27,8 @@ output line p source = record { line = line; port = p; source = source }
 abbrev pub add_output : File → OutputDecl → File
 add_output g o = record g { outputs = g.outputs ++ o ∷ [] }
 
-output_value : (o : OutputDecl) (front : Row) → AreTokens (output_pieces o) front → output (line_at front 0) (text_at front 1) (text_at front 3) ≡ o
+output_value : (o : OutputDecl) (front : Row)
+    → AreTokens (output_pieces o) front → output (line_at front 0) (text_at front 1) (text_at front 3) ≡ o
 output_value o _ (one_more is_first (one_more (is_named e) (one_more is_word (one_more (is_named k) i)))) = refl
 
 -- the pieces of a driven output are read as it

@@ -46,7 +46,8 @@ none_left : (c : Bool) → 0 ≡ (if c then 0 - 1 else 0)
 none_left true = refl
 none_left false = refl
 
-go_is : (ls : List HeldLocation) (k b m a : ℕ) → count (let_go ls k b) m a ≡ (if (k == m) && (b == a) then count ls m a - 1 else count ls m a)
+go_is : (ls : List HeldLocation) (k b m a : ℕ)
+    → count (let_go ls k b) m a ≡ (if (k == m) && (b == a) then count ls m a - 1 else count ls m a)
 go_is [] k b m a = none_left ((k == m) && (b == a))
 go_is (l ∷ ls) k b m a = go_by l ls k b m a ((l.mem == k) && (l.var == b)) refl (go_is ls k b m a)
 
@@ -148,7 +149,8 @@ held_more : (read : ℕ → ℕ → ℕ) (x : Stmt) (d : Deeds) (before : List S
 held_more read x d before h m a =
     ap (λ ls. count ls m a) (held_same read x.op d) ∙ after_is x.op d.held m a ∙ ap (with_one m a x.op) (h m a) ∙ sym (times_more m a before x 0)
 
-marks_then : (read : ℕ → ℕ → ℕ) (x : Stmt) (xs : List Stmt) (d : Deeds) (before : List Stmt) → ((m a : ℕ) → count d.held m a ≡ times_held m a before 0)
+marks_then : (read : ℕ → ℕ → ℕ) (x : Stmt) (xs : List Stmt) (d : Deeds) (before : List Stmt)
+    → ((m a : ℕ) → count d.held m a ≡ times_held m a before 0)
     → ((e : Deeds) (past : List Stmt) → ((m a : ℕ) → count e.held m a ≡ times_held m a past 0)
     → map (λ b. b.writes) (deeds_after_all read xs e).blocks ≡ map (λ b. b.writes) e.blocks ++ marks past (done read xs e))
     → (b : Bool)
@@ -162,7 +164,8 @@ marks_then read x xs d before h rest true =
     ∙ append_assoc (map (λ b. b.writes) d.blocks) (on_block (λ m a. holds before m a ∷ []) [] x.op)
     (marks (before ++ x ∷ []) (done read xs (deeds_after read x.op d))))
 
-marks_by : (read : ℕ → ℕ → ℕ) (x : Stmt) (xs : List Stmt) (d : Deeds) (before : List Stmt) → ((m a : ℕ) → count d.held m a ≡ times_held m a before 0)
+marks_by : (read : ℕ → ℕ → ℕ) (x : Stmt) (xs : List Stmt) (d : Deeds) (before : List Stmt)
+    → ((m a : ℕ) → count d.held m a ≡ times_held m a before 0)
     → ((e : Deeds) (past : List Stmt) → ((m a : ℕ) → count e.held m a ≡ times_held m a past 0)
     → map (λ b. b.writes) (deeds_after_all read xs e).blocks ≡ map (λ b. b.writes) e.blocks ++ marks past (done read xs e))
     → (b : Bool) → all_hold x.guards d.env ≡ b

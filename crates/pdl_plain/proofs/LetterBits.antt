@@ -46,7 +46,8 @@ top_bit b w n h l =
     ap (λ z. z / 2 ^ n % 2) e ∙ (ap (λ z. z % 2) (f ∙ k) ∙ mod-eq_of_lt (omega arith))
 
 -- the places of a letter are below the number of bits
-low_place : (t : Bool) (b w n k : ℕ) → k < n → map (bit_at (b * 2 ^ n + w)) (if t then k ∷ [] else []) ≡ map (bit_at w) (if t then k ∷ [] else [])
+low_place : (t : Bool) (b w n k : ℕ)
+    → k < n → map (bit_at (b * 2 ^ n + w)) (if t then k ∷ [] else []) ≡ map (bit_at w) (if t then k ∷ [] else [])
 low_place true b w n k h = ap (λ x. x ∷ []) (low_bit b w n k h)
 low_place false b w n k h = refl
 

@@ -130,7 +130,8 @@ pub by_word : (p : Part) (r : VerilogRule) (x : List ℕ) → chosen p x ≡ Som
 by_word p r x e _ is_word = e
 
 -- which rule begins with a word on a line
-pub by_first : (p : Part) (r : VerilogRule) (line : ℕ) (x : List ℕ) → chosen p x ≡ Some r → (t : Token) → IsPiece (first line x) t → chosen p t.text ≡ Some r
+pub by_first : (p : Part) (r : VerilogRule) (line : ℕ) (x : List ℕ)
+    → chosen p x ≡ Some r → (t : Token) → IsPiece (first line x) t → chosen p t.text ≡ Some r
 by_first p r line x e _ is_first = e
 
 -- ---- which rules may come at a part

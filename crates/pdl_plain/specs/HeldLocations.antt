@@ -55,7 +55,8 @@ holds xs m a = nat_lt 0 (times_held m a xs 0)
 
 -- what a thread holds as it comes into a stage is what it passed on its path before
 abbrev pub HoldsBefore : Type 0
-HoldsBefore = (s : ℕ) (env : List ℕ) (xs : List Stmt) (m a : ℕ) → is_held (held_before s env xs []) m a ≡ holds (passed s (path_of env) xs) m a
+HoldsBefore = (s : ℕ) (env : List ℕ) (xs : List Stmt) (m a : ℕ)
+    → is_held (held_before s env xs []) m a ≡ holds (passed s (path_of env) xs) m a
 
 -- of these statements those that a thread does, each by the path that its values then tell
 abbrev pub done : (ℕ → ℕ → ℕ) → List Stmt → Deeds → List Stmt
@@ -89,4 +90,5 @@ begun p s t =
 -- of each block of a thread's stage, in text order, the deeds tell whether the thread holds its location for writing
 abbrev pub MarksBlocks : Type 0
 MarksBlocks = (read : ℕ → ℕ → ℕ) (p : Pipe) (s : ℕ) (t : Thread)
-    → map (λ b. b.writes) (deeds_with read p s t).blocks ≡ marks (passed s (path_of t.env) p.stmts) (done read (in_stage s p.stmts) (begun p s t))
+    → map (λ b. b.writes) (deeds_with read p s t).blocks
+    ≡ marks (passed s (path_of t.env) p.stmts) (done read (in_stage s p.stmts) (begun p s t))

@@ -29,7 +29,7 @@ is_removed (Some squasher) thread = nat_lt squasher thread
 abbrev pub of_thread : (ℕ → Bool) → ℕ → ℕ → Request
 of_thread removed thread address = if removed thread then Orphan address else Owned thread address
 
--- the request of a memory after a cycle: the new one, if one is made. Else it is over where it is answered. Else it stays, and becomes an orphan where its thread is removed
+-- the request of a memory after a cycle: the new one, if one is made. Else none where it is answered, and else the old one. A thread that is removed leaves an orphan
 abbrev pub request_after : Request → Bool → List New → (ℕ → Bool) → Request
 request_after old answered (new ∷ more) removed = of_thread removed new.thread new.address
 request_after old true [] removed = NoRequest
