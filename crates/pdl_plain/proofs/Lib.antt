@@ -1,0 +1,12 @@
+pub mod SignedWords
+pub mod RequestCases
+pub mod HeldTimes
+pub mod Separators
+pub mod LetterBits
+pub mod RuleSteps
+pub mod NameBytes
+pub mod DeclaredLines
+pub mod CellLines
+pub mod DrivenLines
+pub mod BlockLines
+pub mod FileTexts

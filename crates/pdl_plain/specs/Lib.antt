@@ -1,0 +1,6 @@
+pub mod Signed
+pub mod Requests
+pub mod HeldLocations
+pub mod StagesByText
+pub mod LetterPlaces
+pub mod NetlistTexts
