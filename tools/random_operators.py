@@ -13,6 +13,7 @@ Where TOOLS is 1, which is 0 where it isn't given, those of Icarus Verilog, Veri
 too, of the pipes without constants: the first two run the text that is built, and Icarus what Yosys makes of it.
 """
 
+import functools
 import itertools
 import pathlib
 import random
@@ -22,7 +23,7 @@ import tempfile
 import usage
 from pdl_model import words
 from pdl_model.words import Word
-from real_tools import Module, bench, loads, said
+from real_tools import Module, bench, loads, said, write_words
 
 # What of two words x and y is a word of their width: a memory that receives it, its expression, and what it is.
 OF_ONE_WIDTH = {
@@ -72,14 +73,14 @@ def rows(chance, width, most):
     return found
 
 
-def source(width, bits, made, constants):
-    """The pipe, whose n-th thread is of the n-th pair; a constant that isn't None stands for the first or the second words."""
+def source(name, width, bits, made, constants):
+    """The pipe of a name, whose n-th thread is of the n-th pair; a constant that isn't None stands for the first or the second words."""
     inputs = [f"{name}: uint<{width}>[{1 << bits}] comb" for name in ("a", "b")]
     outputs = [f"{it.name}: uint<{it.width}>[{1 << bits}] comb lock queue(1)" for it in made]
     lines = [f"acquire({it.name}[n], W); {it.name}[n] <- {it.text}; release({it.name}[n]);" for it in made]
     bound = [f"{name} = {f'{memory}[n]' if it is None else f'{width}{chr(39)}h{it:x}'};" for name, memory, it in zip("xy", "ab", constants)]
     body = "\n".join([" ".join(bound), *lines, f"call(n + {bits}'d1);"])
-    return f"pipe p(n: uint<{bits}>)\n[{', '.join(inputs + outputs)}] {{\n{body}\n}} start p({bits}'d0);\n"
+    return f"pipe {name}(n: uint<{bits}>)\n[{', '.join(inputs + outputs)}] {{\n{body}\n}} start {name}({bits}'d0);\n"
 
 
 def corners_of(width):
@@ -132,26 +133,73 @@ def by_ports(module, text, made):
     return found
 
 
-def others(module, folder):
-    """The calls of the tools that are installed, each with its name; the last call of each shows the ports."""
+def others(module):
+    """The calls of Icarus and Yosys where they are installed, each with its name; the last call of each shows the ports."""
     icarus = lambda file: [["iverilog", "-g2005", "-o", "bench.vvp", "bench.v", file], ["vvp", "-n", "bench.vvp"]]
     if shutil.which("iverilog"):
         yield "Icarus Verilog", icarus(module.file)
-    if shutil.which("verilator"):
-        made = ["verilator", "--binary", "-Wno-fatal", "-Wno-lint", "-Wno-style", "--top-module", "bench", "bench.v", module.file]
-        yield "Verilator", [made, [str(folder / "obj_dir" / "Vbench")]]
     if shutil.which("yosys") and shutil.which("iverilog"):
         passes = f"read_verilog {module.file}; proc; opt -full; wreduce; peepopt; opt -full; write_verilog -noattr yosys.v"
         yield "Yosys", [["yosys", "-q", "-p", passes], *icarus("yosys.v")]
 
 
-def judged(program, made, found, constants, with_tools, folder):
-    """All that is wrong of what is made of these pairs, and how many words were compared."""
+class Benches:
+    """Test benches of which Verilator makes one program, since most of its time goes into headers of C++.
+
+    `asked` has of each its module, its folder, what is made of the pairs, and the lines that it has to show.
+    """
+
+    MOST = 16
+
+    def __init__(self, folder):
+        self.folder, self.asked = folder, []
+
+    def text(self):
+        """The benches beside each other, each in a module of its own. Their lines begin with the names of their folders."""
+        found = ["module bench;", *(f"  bench_{folder.name} of_{folder.name}();" for _, folder, _, _ in self.asked), "endmodule"]
+        for _, folder, _, _ in self.asked:
+            its = [("module bench;", f"module bench_{folder.name};"), *((f'{call}("', f'{call}("{folder.name}{after}')
+                   for call, after in (("$readmemh", "/"), ("$display", " ")))]
+            found.append(functools.reduce(lambda text, pair: text.replace(*pair), its, (folder / "bench.v").read_text()))
+        return "\n".join(found)
+
+    def answers(self):
+        """What Verilator and its program say. What is compiled of Verilator's own files is kept for the next benches."""
+        (self.folder / "bench.v").write_text(self.text())
+        of_make = [f"OPT_{it}=-O0" for it in ("FAST", "SLOW", "GLOBAL")]
+        of_make += [f"-o{it.name}" for it in (self.folder / "obj_dir").glob("verilated*.o")]
+        words_of_call = ["--binary", "--no-skip-identical", "-Wno-fatal", "-Wno-lint", "-Wno-style", "--top-module", "bench"]
+        words_of_call += [it for word in of_make for it in ("-MAKEFLAGS", word)]
+        texts = [f"{folder.name}/{module.file}" for module, folder, _, _ in self.asked]
+        made = said(["verilator", *words_of_call, "bench.v", *texts], self.folder)
+        return made[1], said([str(self.folder / "obj_dir" / "Vbench")], self.folder)[1]
+
+    def wrong(self):
+        """All that Verilator shows otherwise of these benches, which are done then."""
+        found, complaint, shown = [], "", ""
+        if self.asked and shutil.which("verilator"):
+            complaint, shown = self.answers()
+        lines = [line.partition(" ") for line in shown.splitlines()]
+        for module, folder, made, wanted in self.asked:
+            its = by_ports(module, "\n".join(rest for name, _, rest in lines if name == folder.name), made)
+            if shutil.which("verilator") and its != wanted:
+                found.append(f"{folder.name}: Verilator: {differing(its, wanted)} {complaint[:300]}")
+            shutil.rmtree(folder)
+        self.asked = []
+        return found
+
+
+def judged(program, made, found, constants, benches, folder):
+    """All that is wrong of what a pipe of the folder's name makes of these pairs, and how many words were compared.
+
+    With benches the tools are asked too.
+    """
     width, count = found[0][0].width, len(found)
     found = [tuple(it if k is None else Word(k, width) for it, k in zip(pair, constants)) for pair in found]
-    text = source(width, (count - 1).bit_length(), made, constants)
+    text = source(folder.name, width, (count - 1).bit_length(), made, constants)
     image = "\n".join(["image 1", *(f"{name} {at} {it[k].value:x}" for at, it in enumerate(found) for k, name in enumerate("ab"))])
     wanted = lines_of(made, found)
+    folder.mkdir(exist_ok=True)
     for name, content in (("source.pdl", text), ("image.img", image + "\n")):
         (folder / name).write_text(content)
     wrong = []
@@ -164,21 +212,43 @@ def judged(program, made, found, constants, with_tools, folder):
         status, said_of_it = said([program, *words_of_call, "image.img", str(count)], folder)
         if status or said_of_it.splitlines() != wanted:
             wrong.append(f"width {width}: {words_of_call[0]}: {differing(said_of_it.splitlines(), wanted)}")
-    if with_tools:
-        # What is put into an array is seen by Verilator from the next edge of the clock on, so the words stand there before the reset too.
-        early = "\n".join(["  initial begin", *loads(module, image)])
-        (folder / "bench.v").write_text(bench(module, image, lambda cycle: [], count).replace("  initial begin", early, 1))
-        for name, calls in others(module, folder):
-            answers = [said(it, folder) for it in calls]
-            shown = by_ports(module, answers[-1][1], made)
-            if shown != wanted[:-1]:
-                wrong.append(f"width {width}: {name}: {differing(shown, wanted)} {answers[0][1][:300]}")
+    if benches:
+        write_words(module, image, folder)
+        wrong += asked_of_tools(module, made, wanted[:-1], folder)
+        benches.asked.append((module, folder, made, wanted[:-1]))
     return wrong, len(found) * len(made)
+
+
+def asked_of_tools(module, made, wanted, folder):
+    """What Icarus and Yosys show otherwise of a module, for which a bench is written."""
+    # What is put into an array is seen by Verilator from the next edge of the clock on, so the words stand there before the reset too.
+    early = "\n".join(["  initial begin", *loads(module)])
+    text = bench(module, lambda cycle: [], len(wanted) // len(made))
+    (folder / "bench.v").write_text(text.replace("  initial begin", early, 1))
+    wrong = []
+    for name, calls in others(module):
+        answers = [said(it, folder) for it in calls]
+        shown = by_ports(module, answers[-1][1], made)
+        if shown != wanted:
+            wrong.append(f"{folder.name}: {name}: {differing(shown, wanted)} {answers[0][1][:300]}")
+    return wrong
 
 
 def differing(lines, wanted):
     """The first lines that differ."""
     return next(((a, b) for a, b in itertools.zip_longest(lines, wanted) if a != b), "")
+
+
+def of_width(program, width, count, seed, benches, top):
+    """All that is wrong of so many pairs of a width, and how many words were compared."""
+    chance = random.Random(f"{seed} {width}")
+    given = pairs(chance, width, count)
+    widest = [it for it in (64, words.WIDEST) if width <= it]
+    calls = [(most, given, (None, None), benches, f"p{width}_{most}") for most in widest]
+    calls += [(chance.choice(widest), given[:8], it, None, "p") for it in constants_of(chance, width)]
+    judgements = [judged(program, rows(chance, width, most), some, constants, asked, top / name)
+                  for most, some, constants, asked, name in calls]
+    return [it for found, _ in judgements for it in found], sum(compared for _, compared in judgements)
 
 
 def main():
@@ -189,18 +259,16 @@ def main():
         usage.ends(f"{count} is no power of two from 2 on")
     asked = wrong = 0
     with tempfile.TemporaryDirectory() as name:
+        top = pathlib.Path(name)
+        benches = Benches(top)
         for width in range(1, words.WIDEST + 1):
-            chance = random.Random(f"{seed} {width}")
-            given = pairs(chance, width, count)
-            widest = [it for it in (64, words.WIDEST) if width <= it]
-            calls = [(most, given, (None, None), with_tools) for most in widest]
-            calls += [(chance.choice(widest), given[:8], it, 0) for it in constants_of(chance, width)]
-            for most, some, constants, asks_tools in calls:
-                found, compared = judged(program, rows(chance, width, most), some, constants, asks_tools, pathlib.Path(name))
-                asked += compared
-                wrong += len(found)
-                for it in found:
-                    print(it)
+            found, compared = of_width(program, width, count, seed, benches if with_tools else None, top)
+            if len(benches.asked) >= Benches.MOST or width == words.WIDEST:
+                found += benches.wrong()
+            asked += compared
+            wrong += len(found)
+            for it in found:
+                print(it, flush=True)
     print(f"words {asked} wrong {wrong}")
     return 1 if wrong else 0
 

@@ -86,6 +86,11 @@ class Module:
         """The delayed memories: a name, the width of a word, and that of an address."""
         return [(name, width, self.width[f"qa_{name}"]) for name, width in self.words.items()]
 
+    def depths(self):
+        """The memories inside the module and beside it, each with how many words it has."""
+        inside = {name: depth for name, (_, depth) in self.arrays.items()}
+        return inside | {name: 1 << address for name, _, address in self.delayed()}
+
 
 def words_of(image):
     """The words of an image text, each with its memory and its address; a line gives one, or a range of them."""
@@ -116,20 +121,21 @@ def kept_outside(name, width, address, commits):
     return declared, answered, left
 
 
-def loads(module, image):
-    """The words of an image as they are put into the arrays and the delayed memories."""
+def write_words(module, image, folder):
+    """Writes the words of an image into a folder, a file `NAME.hex` for each memory."""
     given = {(name, address): value for name, address, value in words_of(image)}
-    inside = [(f"dut.a_{name}", name, width, depth) for name, (width, depth) in module.arrays.items()]
-    outside = [(f"m_{name}", name, width, 1 << address) for name, width, address in module.delayed()]
-    return [
-        f"    {array}[{address}] = {width}'h{given.get((name, address), 0):x};"
-        for array, name, width, depth in inside + outside
-        for address in range(depth)
-    ]
+    for name, depth in module.depths().items():
+        (folder / f"{name}.hex").write_text("".join(f"{given.get((name, at), 0):x}\n" for at in range(depth)))
 
 
-def bench(module, image, replies, cycles, nets=()):
-    """A test bench: one reset cycle, the image, and in each cycle the answers, and a line with all ports and these nets."""
+def loads(module):
+    """The statements that put the words of these files into the arrays and the delayed memories."""
+    found = [f"dut.a_{name}" for name in module.arrays] + [f"m_{name}" for name in module.words]
+    return [f'    $readmemh("{name}.hex", {array});' for name, array in zip(module.depths(), found)]
+
+
+def bench(module, replies, cycles, nets=()):
+    """A test bench: one reset cycle, the words of the memories from their files, and in each cycle the answers, and a line with all ports and these nets."""
     outside = [kept_outside(*it, module.commits_of(it[0])) for it in module.delayed()]
     rows = [replies(cycle) for cycle in range(1, cycles + 1)]
     bits = {name: "".join(str(int(name in row)) for row in rows) for name in module.words}
@@ -154,7 +160,7 @@ def bench(module, image, replies, cycles, nets=()):
             "    #1 clk = 1;",
             "    #1 clk = 0;",
             "    rst = 0;",
-            *loads(module, image),
+            *loads(module),
             f"    for (cycle = 1; cycle <= {cycles}; cycle = cycle + 1) begin",
             *[line for it in outside for line in it[1]],
             f'      #1 $display("{form}"{shown});',
@@ -178,7 +184,8 @@ def port_lines(module, shown):
 
 def ports_shown(module, image, replies, cycles, folder, nets=()):
     """The values of all ports and of these nets in each cycle by Icarus, or what it has against the test bench."""
-    (folder / "bench.v").write_text(bench(module, image, replies, cycles, nets))
+    write_words(module, image, folder)
+    (folder / "bench.v").write_text(bench(module, replies, cycles, nets))
     status, text = said(["iverilog", "-g2005", "-o", "bench.vvp", "bench.v", module.file], folder)
     if status:
         return None, f"iverilog: {text}"

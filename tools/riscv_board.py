@@ -79,6 +79,19 @@ def clock(folder):
     return sum(float(re.findall(r"Max frequency for clock .*?: ([\d.]+) MHz", it)[-1]) for it in logs) / len(SEEDS)
 
 
+def tables(program, core, change):
+    """The look-up tables alone of a core, which needs no place for it on the HX8K."""
+    with tempfile.TemporaryDirectory() as name:
+        folder = pathlib.Path(name)
+        board.synthesise(program, core, IMAGE.read_text(), PLACE, folder, changed(change))
+        return tables_in(folder)
+
+
+def tables_in(folder):
+    """How many look-up tables there are among the cells that Yosys left in a folder."""
+    return int(re.search(r"SB_LUT4 +(\d+)", (folder / "cells.txt").read_text())[1])
+
+
 def taken(program, core, change):
     """What a core takes, whose source is changed first."""
     with tempfile.TemporaryDirectory() as name:
@@ -87,7 +100,7 @@ def taken(program, core, change):
         cells, log = (folder / "cells.txt").read_text(), (folder / "top.log").read_text()
         timing = (folder / "icetime.log").read_text()
         return Taken(
-            tables=int(re.search(r"SB_LUT4 +(\d+)", cells)[1]),
+            tables=tables_in(folder),
             flops=sum(map(int, re.findall(r"SB_DFF\w* +(\d+)", cells))),
             cells=int(re.search(r"ICESTORM_LC: +(\d+)", log)[1]),
             blocks=int(re.search(r"ICESTORM_RAM: +(\d+)", log)[1]),

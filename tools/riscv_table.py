@@ -1,11 +1,12 @@
 #!/usr/bin/env python3
 """Prints the table of docs/riscv.md that puts the cores beside others: instructions a cycle, look-up tables and clock.
 
-    riscv_table.py PDL [--write]
+    riscv_table.py PDL PICORV32 [--write]
 
-PDL is the program. Each core runs the prebuilt programs, all of whose writes have to be the model's, and is made for an
-iCE40-HX8K as riscv_board.py makes it: that needs yosys, nextpnr-ice40 and icestorm. What others publish of their cores is
-written below as they say it. With --write the table is put into the page.
+PDL is the program, and PICORV32 the text of that core, as riscv_picorv32.py takes it. Each core runs the prebuilt programs, all
+of whose writes have to be the model's, and is made for an iCE40-HX8K as riscv_board.py makes it: that needs yosys,
+nextpnr-ice40 and icestorm. PicoRV32 is measured as riscv_picorv32.py says. What others publish of their cores is written below
+as they say it. With --write the table is put into the page.
 """
 
 import concurrent.futures
@@ -13,6 +14,7 @@ import os
 import tempfile
 
 import riscv_board
+import riscv_picorv32
 import usage
 from riscv_cores import BUFFER, COUNTERS, DELAYED, FIVE, GUESS, LOCK_OF_X, MULTIPLIES, OPERANDS, SINGLE, TRAPS, UPDATED, VERIFY_LATER, Figures, expected, put_table
 
@@ -47,7 +49,7 @@ HEAD = [
     "| core | source | 24 programs | `records_O2` | `mix_O2` | look-up tables | MHz |",
     "|---|---|---|---|---|---|---|",
 ]
-# What is published: of PicoRV32 in its README. There it is cycles an instruction: 4.100 and 5.232, of Dhrystone.
+# What is published of PicoRV32, in its README. There it is cycles an instruction: 4.100 and 5.232, of Dhrystone.
 OTHERS = (
     "| PicoRV32, with multiplication and look-ahead | its README | | Dhrystone: 0.24 | | | |",
     "| the same, without look-ahead | its README | | Dhrystone: 0.19 | | | |",
@@ -66,16 +68,19 @@ def speeds(figures, core, change):
 
 
 def sizes(program, core, change):
-    """Look-up tables and clock; a core that doesn't fit has none."""
-    if core in (SINGLE, MULTIPLIES) or change == RENAMED:
+    """Look-up tables and clock; a core that doesn't fit has no clock. That of one stage would have its memories as flip-flops."""
+    name = core.source.removesuffix(".pdl")
+    if core is SINGLE:
         return ["", ""]
-    it = riscv_board.taken(program, core.source.removesuffix(".pdl"), change)
+    if core is MULTIPLIES or change == RENAMED:
+        return [f"{riscv_board.tables(program, name, change):,}", ""]
+    it = riscv_board.taken(program, name, change)
     return [f"{it.tables:,}", f"{it.clock:.1f}"]
 
 
 def main():
-    program, *more = usage.words(__doc__, 1, 2)
-    program = usage.program(program)
+    program, picorv32, *more = usage.words(__doc__, 2, 3)
+    program, picorv32 = usage.program(program), riscv_picorv32.text(picorv32)
     if more not in ([], ["--write"]):
         usage.ends(f"`{more[0]}` is no word of it")
     with tempfile.TemporaryDirectory() as folder, concurrent.futures.ThreadPoolExecutor(len(os.sched_getaffinity(0))) as workers:
@@ -83,7 +88,7 @@ def main():
         figures = Figures(program, folder)
         ran = [speeds(figures, core, change) for _, core, change in ROWS]
         cells = [[told, f"`{core.source}`", *fast, *large.result()] for (told, core, _), fast, large in zip(ROWS, ran, made)]
-    rows = [*HEAD, *("| " + " | ".join(it) + " |" for it in cells), *OTHERS]
+    rows = [*HEAD, *("| " + " | ".join(it) + " |" for it in cells), *riscv_picorv32.rows(picorv32), *OTHERS]
     print("\n".join(rows))
     if more:
         put_table(rows)

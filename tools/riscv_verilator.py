@@ -7,7 +7,7 @@ for all images. Its delayed memories stand outside of it, in the program, and an
 import pathlib
 import subprocess
 
-from real_tools import Module, words_of
+from real_tools import Module, write_words
 
 START = """#include "Vpdl.h"
 #include "verilated.h"
@@ -137,10 +137,5 @@ class Verilated:
 
     def run(self, image, cycles, delays=None):
         """The lines of a run from the text of an image, with a delay file or none."""
-        depths = [(name, depth) for name, (_, depth) in self.module.arrays.items()]
-        depths += [(name, 1 << bits) for name, _, bits in self.module.delayed()]
-        given = {(name, address): value for name, address, value in words_of(image)}
-        for name, depth in depths:
-            words = (f"{given.get((name, address), 0):x}\n" for address in range(depth))
-            (self.folder / f"{name}.hex").write_text("".join(words))
+        write_words(self.module, image, self.folder)
         return self.said(["obj_dir/Vpdl", cycles] + ([delays] if delays else []))

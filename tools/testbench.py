@@ -20,7 +20,7 @@ import names
 import usage
 from pdl_model import rules
 from port_groups import grouped, title
-from real_tools import Module, words_of
+from real_tools import Module, write_words
 
 # What a port shows, by the letters before its name.
 SHOWS = {
@@ -34,10 +34,8 @@ def sized(width):
 
 
 def memories(module):
-    """The memories with their arrays, widths and numbers of words: those inside the module, and the delayed ones."""
-    inside = [(name, f"core.a_{name}", width, depth) for name, (width, depth) in module.arrays.items()]
-    outside = [(name, f"ram_{name}.words", width, 1 << address) for name, width, address in module.delayed()]
-    return inside + outside
+    """The memories with their arrays: those inside the module, and the delayed ones."""
+    return [(name, f"core.a_{name}") for name in module.arrays] + [(name, f"ram_{name}.words") for name in module.words]
 
 
 def ram(module, name, width, address):
@@ -106,7 +104,7 @@ def bench(module, cycles, source, titles, named=()):
         "    #1 clk = 1;                               // the one edge of the reset",
         "    #1 clk = 0;",
         "    rst = 0;",
-        *[f'    $readmemh("{name}.hex", {array});' for name, array, _, _ in memories(module)],
+        *[f'    $readmemh("{name}.hex", {array});' for name, array in memories(module)],
         f"    for (cycle = 1; cycle <= {cycles}; cycle = cycle + 1) begin",
         "      #1;",
         *[f'      if ({enable}) $display("%0d {name} %0d %h", cycle, {at}, {value});' for name, enable, at, value in module.commits()],
@@ -129,9 +127,7 @@ def main():
         sys.stderr.write(built.stderr)
         return built.returncode
     module = Module(built.stdout)
-    given = {(name, address): value for name, address, value in words_of(pathlib.Path(image).read_text())}
-    for name, _, _, depth in memories(module):
-        (folder / f"{name}.hex").write_text("".join(f"{given.get((name, at), 0):x}\n" for at in range(depth)))
+    write_words(module, pathlib.Path(image).read_text(), folder)
     (folder / "core.v").write_text(built.stdout)
     text = pathlib.Path(source).read_bytes()
     layout = rules.checked(text.decode("latin-1"))

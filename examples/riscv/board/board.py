@@ -78,16 +78,21 @@ def place(folder, seed, name="seed"):
     return (folder / (name + ".log")).read_text()
 
 
-def make(pdl, core, image, lamps, folder, change=lambda text: text):
-    """Makes the bitstream of a core, whose source may be changed first, and says what it takes."""
+def synthesise(pdl, core, image, lamps, folder, change=lambda text: text):
+    """Makes cells of the iCE40 of a core, whose source may be changed first: top.json, and cells.txt with their numbers."""
     write_core(core, folder, change)
     text = run([pdl, "build", "core.pdl"], folder)
     (folder / "core.v").write_text(with_contents(text, image, folder))
     module = re.search(r"^module (\w+)\(", text, re.M)[1]
-    (folder / "top.v").write_text((HERE / WRAPPERS[core]).read_text().replace("pdl_rv32i ", module + " "))
+    (folder / "top.v").write_text((HERE / WRAPPERS.get(core, "top.v")).read_text().replace("pdl_rv32i ", module + " "))
     synthesis = ("read_verilog top.v core.v; chparam -set LAMPS %d top; synth_ice40 -abc9 -device hx -top top -json top.json; "
                  "write_verilog -noattr netlist.v; tee -o cells.txt stat" % lamps)
     run(["yosys", "-p", synthesis], folder, "yosys.log")
+
+
+def make(pdl, core, image, lamps, folder, change=lambda text: text):
+    """Makes the bitstream of a core, whose source may be changed first, and says what it takes."""
+    synthesise(pdl, core, image, lamps, folder, change)
     log = place(folder, 1, "top")
     run(["icepack", "top.asc", "top.bin"], folder)
     run(["icetime", "-d", "hx8k", "-m", "-r", "icetime.txt", "top.asc"], folder, "icetime.log")
