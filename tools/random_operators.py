@@ -149,7 +149,7 @@ class Benches:
     `asked` has of each its module, its folder, what is made of the pairs, and the lines that it has to show.
     """
 
-    MOST = 16
+    MOST = 8
 
     def __init__(self, folder):
         self.folder, self.asked = folder, []
