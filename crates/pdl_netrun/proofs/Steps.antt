@@ -146,33 +146,6 @@ none_left kind (o ∷ os) first vs ws e = absurd (omega (arith, e))
 
 pub ruleset nothing = (none_left)
 
--- n cells from the k-th on, and then those after them
-pub eights_after : (kind : CellKind) (os : List CellOperands) (first k n : ℕ) (vs : List ℕ) (ws : List (List ℕ)) → k + n ≤ length os
-    → after_steps (steps_with kind (drop (k + n) os)) (first + (k + n)) (after_steps (steps_with kind (take n (drop k os))) (first + k) vs ws) ws
-    ≡ after_steps (steps_with kind (drop k os)) (first + k) vs ws
-eights_after kind os first k n vs ws l =
-    let e : first + (k + n) ≡ first + k + n = omega arith in
-    let d = length-drop k os in
-    let ws' = after_steps (steps_with kind (take n (drop k os))) (first + k) vs ws in
-    ap (λ i. after_steps (steps_with kind (drop (k + n) os)) i ws' ws) e
-    ∙ ap (λ xs. after_steps (steps_with kind xs) (first + k + n) ws' ws) (sym (drop-drop n k os))
-    ∙ halves_after kind (drop k os) n (first + k) vs ws (omega (arith, l, d))
-
--- where the cells from the k-th on fit, the first n of them do, and then those after them
-pub eights_fit : (bits : ℕ) (kind : CellKind) (os : List CellOperands) (first k n : ℕ) (vs : List ℕ) (ws : List (List ℕ)) → k + n ≤ length os
-    → StepsFit bits (steps_with kind (drop k os)) (first + k) vs ws
-    → StepsFit bits (steps_with kind (take n (drop k os))) (first + k) vs ws
-    × StepsFit bits (steps_with kind (drop (k + n) os)) (first + (k + n)) (after_steps (steps_with kind (take n (drop k os))) (first + k) vs ws) ws
-eights_fit bits kind os first k n vs ws l f =
-    let e : first + k + n ≡ first + (k + n) = omega arith in
-    let d = length-drop k os in
-    let ws' = after_steps (steps_with kind (take n (drop k os))) (first + k) vs ws in
-    let g = halves_fit bits kind (drop k os) n (first + k) vs ws (omega (arith, l, d)) f in (
-      g.0,
-      subst (λ i. StepsFit bits (steps_with kind (drop (k + n) os)) i ws' ws) e
-          (subst (λ xs. StepsFit bits (steps_with kind xs) (first + k + n) ws' ws) (drop-drop n k os) g.1),
-    )
-
 -- the steps from the k-th run on
 abbrev run_steps : CellRun → List Step
 run_steps r = steps_with (kind_in r.kind) r.operands.items
@@ -231,7 +204,6 @@ pub runs_all : (rs : List CellRun) (k at : ℕ) (vs : List ℕ) (ws : List (List
     → length rs ≤ k → after_steps (steps_of (drop k rs)) at vs ws ≡ vs
 runs_all rs k at vs ws h = ap (λ l. after_steps (steps_of l) at vs ws) (drop_all k rs h)
 
-pub ruleset eights = (eights_after, eights_fit, cells_all)
 
 pub ruleset cells = (cells_more, cells_fit, cells_all, given, constants_stand)
 
