@@ -188,6 +188,10 @@ run_length rs k r h e =
     ∙ length-append (steps_with (kind_in r.kind) r.operands.items) (steps_of (drop (k + 1) rs))
     ∙ ap (λ i. i + length (steps_of (drop (k + 1) rs))) (with_length (kind_in r.kind) r.operands.items)
 
+-- all runs that are left after the first n
+pub left_runs : (rs : List CellRun) (n : ℕ) → take (length rs - n) (drop n rs) ≡ drop n rs
+left_runs rs n = take_all (length rs - n) (drop n rs) (let e = length-drop n rs in omega (arith, e))
+
 -- steps leave the number of values
 pub after_kind_length : (kind : CellKind) (o : CellOperands) (at : ℕ) (vs : List ℕ) (ws : List (List ℕ))
     → length (after_kind kind o at vs ws) ≡ length vs

@@ -310,8 +310,11 @@ pub fn walk_runs(runs: &[CellRun], first: usize, arrays: &[Vec<u64>], values: &m
         (array_words arrays.now) }
 {
     let mut at = first;
-    for run in runs {
+    let mut left = runs;
+    while !left.is_empty() {
+        let run = &left[0];
         walk_run(run, at, arrays, values);
         at += run.operands.as_slice().len();
+        left = &left[1..];
     }
 }
