@@ -1,6 +1,6 @@
 -- The steps of the loops over cells, runs, places and writes.
 use Rattle.std.proofs.Common.{◌≡◌, false, ℕ, suc, ◌+◌, ◌-◌, ◌<◌, ◌≤◌, List, [], ◌∷◌, ◌++◌, length, get_or, take, drop, set, map, refl, sym, ap, ◌∙◌, subst, arith, length-append}
-use Rattle.std.proofs.lemmas.List.{take_all, map_more, drop_more, drop_all, length-set, length-map, take-append-drop, map-append, length-take-le, length-drop, drop-drop}
+use Rattle.std.proofs.lemmas.List.{take_all, map_more, drop_more, drop_all, length-set, length-map, take-append-drop, map-append, length-take-le, length-drop}
 use Rattle.std.proofs.lemmas.Grind.{take-set_at}
 use Rattle.pdl_netrun.specs.declared.operation.CellKind.{CellKind}
 use Rattle.pdl_netrun.specs.declared.operation.CellKind.TheVariants as kinds
@@ -207,7 +207,6 @@ after_length (x ∷ xs) at vs ws = after_length xs (suc at) (after_step x at vs 
 pub runs_all : (rs : List CellRun) (k at : ℕ) (vs : List ℕ) (ws : List (List ℕ))
     → length rs ≤ k → after_steps (steps_of (drop k rs)) at vs ws ≡ vs
 runs_all rs k at vs ws h = ap (λ l. after_steps (steps_of l) at vs ws) (drop_all k rs h)
-
 
 pub ruleset cells = (cells_more, cells_fit, cells_all, given, constants_stand)
 

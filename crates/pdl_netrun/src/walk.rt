@@ -1,4 +1,5 @@
 // The walk of a cycle over words of 64 bits: runs of cells of one kind, one after another, each cell's value going to the next place.
+// By the hints all of it is one function, since a call for each run costs as much as some cells.
 
 ghost use Rattle.std.specs.Prelude.{◌≡◌, ◌+◌, ◌<◌, ◌≤◌, length};
 ghost use Rattle.pdl_netrun.specs.RunKinds.{kind_in};
