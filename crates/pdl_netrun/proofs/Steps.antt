@@ -1,6 +1,6 @@
 -- The steps of the loops over cells, runs, places and writes.
 use Rattle.std.proofs.Common.{◌≡◌, false, ℕ, suc, ◌+◌, ◌-◌, ◌<◌, ◌≤◌, List, [], ◌∷◌, ◌++◌, length, get_or, take, drop, set, map, refl, sym, ap, ◌∙◌, subst, arith, length-append}
-use Rattle.std.proofs.lemmas.List.{take_all, map_more, drop_more, drop_all, length-set, length-map, take-append-drop, map-append, length-take-le, length-drop, drop-drop}
+use Rattle.std.proofs.lemmas.List.{take_all, map_more, drop_more, drop_all, length-set, length-map, take-append-drop, map-append, length-take-le, length-drop}
 use Rattle.std.proofs.lemmas.Grind.{take-set_at}
 use Rattle.pdl_netrun.specs.declared.operation.CellKind.{CellKind}
 use Rattle.pdl_netrun.specs.declared.operation.CellKind.TheVariants as kinds
@@ -146,33 +146,6 @@ none_left kind (o ∷ os) first vs ws e = absurd (omega (arith, e))
 
 pub ruleset nothing = (none_left)
 
--- n cells from the k-th on, and then those after them
-pub eights_after : (kind : CellKind) (os : List CellOperands) (first k n : ℕ) (vs : List ℕ) (ws : List (List ℕ)) → k + n ≤ length os
-    → after_steps (steps_with kind (drop (k + n) os)) (first + (k + n)) (after_steps (steps_with kind (take n (drop k os))) (first + k) vs ws) ws
-    ≡ after_steps (steps_with kind (drop k os)) (first + k) vs ws
-eights_after kind os first k n vs ws l =
-    let e : first + (k + n) ≡ first + k + n = omega arith in
-    let d = length-drop k os in
-    let ws' = after_steps (steps_with kind (take n (drop k os))) (first + k) vs ws in
-    ap (λ i. after_steps (steps_with kind (drop (k + n) os)) i ws' ws) e
-    ∙ ap (λ xs. after_steps (steps_with kind xs) (first + k + n) ws' ws) (sym (drop-drop n k os))
-    ∙ halves_after kind (drop k os) n (first + k) vs ws (omega (arith, l, d))
-
--- where the cells from the k-th on fit, the first n of them do, and then those after them
-pub eights_fit : (bits : ℕ) (kind : CellKind) (os : List CellOperands) (first k n : ℕ) (vs : List ℕ) (ws : List (List ℕ)) → k + n ≤ length os
-    → StepsFit bits (steps_with kind (drop k os)) (first + k) vs ws
-    → StepsFit bits (steps_with kind (take n (drop k os))) (first + k) vs ws
-    × StepsFit bits (steps_with kind (drop (k + n) os)) (first + (k + n)) (after_steps (steps_with kind (take n (drop k os))) (first + k) vs ws) ws
-eights_fit bits kind os first k n vs ws l f =
-    let e : first + k + n ≡ first + (k + n) = omega arith in
-    let d = length-drop k os in
-    let ws' = after_steps (steps_with kind (take n (drop k os))) (first + k) vs ws in
-    let g = halves_fit bits kind (drop k os) n (first + k) vs ws (omega (arith, l, d)) f in (
-      g.0,
-      subst (λ i. StepsFit bits (steps_with kind (drop (k + n) os)) i ws' ws) e
-          (subst (λ xs. StepsFit bits (steps_with kind xs) (first + k + n) ws' ws) (drop-drop n k os) g.1),
-    )
-
 -- the steps from the k-th run on
 abbrev run_steps : CellRun → List Step
 run_steps r = steps_with (kind_in r.kind) r.operands.items
@@ -215,6 +188,10 @@ run_length rs k r h e =
     ∙ length-append (steps_with (kind_in r.kind) r.operands.items) (steps_of (drop (k + 1) rs))
     ∙ ap (λ i. i + length (steps_of (drop (k + 1) rs))) (with_length (kind_in r.kind) r.operands.items)
 
+-- all runs that are left after the first n
+pub left_runs : (rs : List CellRun) (n : ℕ) → take (length rs - n) (drop n rs) ≡ drop n rs
+left_runs rs n = take_all (length rs - n) (drop n rs) (let e = length-drop n rs in omega (arith, e))
+
 -- steps leave the number of values
 pub after_kind_length : (kind : CellKind) (o : CellOperands) (at : ℕ) (vs : List ℕ) (ws : List (List ℕ))
     → length (after_kind kind o at vs ws) ≡ length vs
@@ -230,8 +207,6 @@ after_length (x ∷ xs) at vs ws = after_length xs (suc at) (after_step x at vs 
 pub runs_all : (rs : List CellRun) (k at : ℕ) (vs : List ℕ) (ws : List (List ℕ))
     → length rs ≤ k → after_steps (steps_of (drop k rs)) at vs ws ≡ vs
 runs_all rs k at vs ws h = ap (λ l. after_steps (steps_of l) at vs ws) (drop_all k rs h)
-
-pub ruleset eights = (eights_after, eights_fit, cells_all)
 
 pub ruleset cells = (cells_more, cells_fit, cells_all, given, constants_stand)
 

@@ -1,6 +1,7 @@
 // The walk of a cycle over words of 64 bits: runs of cells of one kind, one after another, each cell's value going to the next place.
+// By the hints all of it is one function, since a call for each run costs as much as some cells.
 
-ghost use Rattle.std.specs.Prelude.{◌≡◌, ◌+◌, ◌%◌, ◌<◌, ◌≤◌, length};
+ghost use Rattle.std.specs.Prelude.{◌≡◌, ◌+◌, ◌<◌, ◌≤◌, length};
 ghost use Rattle.pdl_netrun.specs.RunKinds.{kind_in};
 ghost use Rattle.pdl_netrun.specs.declared.run_kind.RunKind.TheVariants.{Taking, Testing, Counting};
 ghost use Rattle.pdl_netrun.specs.Steps.{StepsFit, steps_with, steps_of, after_steps, array_words};
@@ -23,6 +24,7 @@ pub struct CellRun {
 }
 
 /// Gives a cell its value, which goes to a place.
+#[inline(always)]
 fn walk_one<K: CellOperation>(
     operands: &[CellOperands],
     first: usize,
@@ -40,6 +42,7 @@ fn walk_one<K: CellOperation>(
 }
 
 /// Gives two cells of one kind their values.
+#[inline(always)]
 #[tactic(auto, using(crate::proofs::Steps::halves))]
 fn walk_two<K: CellOperation>(
     operands: &[CellOperands],
@@ -59,6 +62,7 @@ fn walk_two<K: CellOperation>(
 }
 
 /// Gives four cells of one kind their values.
+#[inline(always)]
 #[tactic(auto, using(crate::proofs::Steps::halves))]
 fn walk_four<K: CellOperation>(
     operands: &[CellOperands],
@@ -78,6 +82,7 @@ fn walk_four<K: CellOperation>(
 }
 
 /// Gives eight cells of one kind their values.
+#[inline(always)]
 #[tactic(auto, using(crate::proofs::Steps::halves))]
 fn walk_eight<K: CellOperation>(
     operands: &[CellOperands],
@@ -96,27 +101,8 @@ fn walk_eight<K: CellOperation>(
     walk_four::<K>(&operands[4..], first + 4, arrays, values);
 }
 
-/// Gives the cells of a run of whole eights their values.
-#[tactic(auto, using(crate::proofs::Steps::eights))]
-fn walk_eights<K: CellOperation>(
-    operands: &[CellOperands],
-    first: usize,
-    arrays: &[Vec<u64>],
-    values: &mut [u64],
-)
-    requires eights { length operands.now % 8 ≡ 0 }
-    requires room { first + length operands.now ≤ length values.old }
-    requires fit { StepsFit 64 (steps_with K.kind operands.now) first values.old
-        (array_words arrays.now) }
-    ensures { values.new ≡ after_steps (steps_with K.kind operands.now) first values.old
-        (array_words arrays.now) }
-{
-    for k in 0..operands.len() / 8 {
-        walk_eight::<K>(&operands[8 * k..8 * k + 8], first + 8 * k, arrays, values);
-    }
-}
-
 /// Gives a cell of one kind its value, or none.
+#[inline(always)]
 #[tactic(auto, using(crate::proofs::Steps::nothing))]
 fn walk_last<K: CellOperation>(
     operands: &[CellOperands],
@@ -137,6 +123,7 @@ fn walk_last<K: CellOperation>(
 }
 
 /// Gives up to three cells of one kind their values.
+#[inline(always)]
 #[tactic(auto, using(crate::proofs::Steps::halves))]
 fn walk_few<K: CellOperation>(
     operands: &[CellOperands],
@@ -160,6 +147,7 @@ fn walk_few<K: CellOperation>(
 }
 
 /// Gives up to seven cells of one kind their values.
+#[inline(always)]
 #[tactic(auto, using(crate::proofs::Steps::halves))]
 fn walk_rest<K: CellOperation>(
     operands: &[CellOperands],
@@ -185,6 +173,7 @@ fn walk_rest<K: CellOperation>(
 /// Gives cells of one kind their values, the first of which goes to a place and the others to those after it.
 ///
 /// Eight are walked without a loop, since what a loop asks for each cell costs as much as a cell's own load.
+#[inline(always)]
 #[tactic(auto, using(crate::proofs::Steps::halves))]
 fn walk<K: CellOperation>(
     operands: &[CellOperands],
@@ -198,12 +187,18 @@ fn walk<K: CellOperation>(
     ensures { values.new ≡ after_steps (steps_with K.kind operands.now) first values.old
         (array_words arrays.now) }
 {
-    let eights = operands.len() / 8 * 8;
-    walk_eights::<K>(&operands[..eights], first, arrays, values);
-    walk_rest::<K>(&operands[eights..], first + eights, arrays, values);
+    let mut left = operands;
+    let mut at = first;
+    while left.len() >= 8 {
+        walk_eight::<K>(&left[..8], at, arrays, values);
+        left = &left[8..];
+        at += 8;
+    }
+    walk_rest::<K>(left, at, arrays, values);
 }
 
 /// Gives cells that take words, or parts of them, their values.
+#[inline(always)]
 #[tactic(auto, using(crate::proofs::Steps::runs))]
 fn walk_taking(
     kind: TakingKind,
@@ -233,6 +228,7 @@ fn walk_taking(
 }
 
 /// Gives cells that compare or combine words their values.
+#[inline(always)]
 fn walk_testing(
     kind: TestingKind,
     operands: &[CellOperands],
@@ -261,6 +257,7 @@ fn walk_testing(
 }
 
 /// Gives cells that count with words, or turn their bits, their values.
+#[inline(always)]
 fn walk_counting(
     kind: CountingKind,
     operands: &[CellOperands],
@@ -289,6 +286,7 @@ fn walk_counting(
 }
 
 /// Gives the cells of a run their values.
+#[inline(always)]
 fn walk_run(run: &CellRun, first: usize, arrays: &[Vec<u64>], values: &mut [u64])
     requires room { first + length run.now.operands.items ≤ length values.old }
     requires fit { StepsFit 64 (steps_with (kind_in run.now.kind) run.now.operands.items) first
@@ -313,8 +311,11 @@ pub fn walk_runs(runs: &[CellRun], first: usize, arrays: &[Vec<u64>], values: &m
         (array_words arrays.now) }
 {
     let mut at = first;
-    for run in runs {
+    let mut left = runs;
+    while !left.is_empty() {
+        let run = &left[0];
         walk_run(run, at, arrays, values);
         at += run.operands.as_slice().len();
+        left = &left[1..];
     }
 }
