@@ -5,6 +5,7 @@ use Rattle.std.proofs.lemmas.List.{get_or-append_right, get_or-map, get_or_defau
 use Rattle.std.proofs.lemmas.List.Elements.{All-append}
 use Rattle.std.proofs.lemmas.Nat.{pow_pos}
 use Rattle.std.proofs.Math.Nat.{pow-le-pow_right}
+use Rattle.pdl_word.proofs.Lists.{zeros_at}
 use Rattle.pdl_net.specs.declared.Cell.{Cell}
 use Rattle.pdl_net.specs.declared.Cell.TheVariants as cell
 use Rattle.pdl_net.specs.declared.Netlist.{Netlist}
@@ -79,15 +80,9 @@ begun_is n image k regs arrays stores d e f g =
 
 -- ADDRESSES
 
-zero_at : (n i : ℕ) → slice_index (replicate n 0) i ≡ 0
-zero_at zero zero = refl
-zero_at zero (suc i) = refl
-zero_at (suc n) zero = refl
-zero_at (suc n) (suc i) = zero_at n i
-
 zero_shown : (n : ℕ) (place : Option ℕ) → value_at (replicate n 0) place < 2 ^ 16
 zero_shown n None = omega arith
-zero_shown n (Some i) = let e = zero_at n i in omega (arith, e)
+zero_shown n (Some i) = let e = zeros_at n i in omega (arith, e)
 
 -- zeros are addresses of at most 16 bits
 pub nothing_seen : (c : Circuit) (n : ℕ) → AddressesSeen c (replicate n 0)
