@@ -27,7 +27,8 @@ block line ws = record { line = line; writes = ws }
 abbrev pub add_array_block : File → ArrayBlock → File
 add_array_block g b = record g { array_blocks = g.array_blocks ++ b ∷ [] }
 
-abbrev write_decl : ℕ → List ℕ → List ℕ → List ℕ → List ℕ → WriteDecl
+-- a write with its line, its enable, its array, its address and its value
+abbrev pub write_decl : ℕ → List ℕ → List ℕ → List ℕ → List ℕ → WriteDecl
 write_decl line enable array addr value = record { line = line; enable = enable; array = array; addr = addr; value = value }
 
 write_value : (w : WriteDecl) (front : Row) → AreTokens (write_pieces w) front

@@ -23,7 +23,8 @@ use Rattle.pdl_plain.proofs.DeclaredLines.{name_value}
 
 -- ---- cells
 
-abbrev cell : ℕ → List ℕ → ℕ → List ℕ → Term → CellDecl
+-- a cell with its line, its name, the high end of its range, the name behind `assign` and its term
+abbrev pub cell : ℕ → List ℕ → ℕ → List ℕ → Term → CellDecl
 cell line x high target tm = record { line = line; name = x; high = high; target = target; term = tm }
 
 -- a file with one cell more

@@ -20,7 +20,8 @@ use Rattle.pdl_plain.proofs.DeclaredLines.{line_value}
 
 -- ---- what drives outputs and registers
 
-abbrev output : ℕ → List ℕ → List ℕ → OutputDecl
+-- a driven output with its line, its name and its source
+abbrev pub output : ℕ → List ℕ → List ℕ → OutputDecl
 output line p source = record { line = line; port = p; source = source }
 
 -- a file with one driven output more
@@ -52,10 +53,12 @@ output_line h o qs g k q c ts d a e w =
 abbrev pub add_reg_block : File → RegBlock → File
 add_reg_block g b = record g { reg_blocks = g.reg_blocks ++ b ∷ [] }
 
-abbrev reg_block : ℕ → List ℕ → Constant → List ℕ → RegBlock
+-- a block with its line, its register, the constant and the source
+abbrev pub reg_block : ℕ → List ℕ → Constant → List ℕ → RegBlock
 reg_block line r k source = record { line = line; reg = r; width = k.width; reset = k.value; source = source }
 
-abbrev driven : RegBlock → List Piece
+-- what a block of a register has after its beginning
+abbrev pub driven : RegBlock → List Piece
 driven b =
     name is_reg b.reg ∷ word (codes "<=") ∷ word (codes "rst") ∷ word (codes "?") ∷ const b.width b.reset
     ∷ word (codes ":") ∷ id b.source ∷ word (codes ";") ∷ []

@@ -10,3 +10,6 @@ pub mod CellLines
 pub mod DrivenLines
 pub mod BlockLines
 pub mod FileTexts
+pub mod ItemTokens
+pub mod TableTexts
+pub mod BothWays

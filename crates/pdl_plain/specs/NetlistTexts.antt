@@ -12,10 +12,10 @@ use Rattle.pdl_vread_text.specs.declared.file.RegBlock.{RegBlock}
 use Rattle.pdl_vread_text.specs.declared.file.WriteDecl.{WriteDecl}
 use Rattle.pdl_vread_text.specs.declared.file.ArrayBlock.{ArrayBlock}
 use Rattle.pdl_vread_text.specs.declared.file.File.{File}
-use Rattle.pdl_vread_text.specs.Tokens.{Token}
+use Rattle.pdl_vread_text.specs.Tokens.{Token, tokens}
 use Rattle.pdl_vread_text.specs.Words.{number_of, constant_of, operator_of, is_module, is_port, is_reg, is_array, is_cell, is_operand}
 use Rattle.pdl_vread_text.specs.Grammar.{Row}
-use Rattle.pdl_vread_text.specs.Text.{Spells}
+use Rattle.pdl_vread_text.specs.Text.{Spells, IsFile}
 use Rattle.pdl_word.specs.Each.{Each}
 
 -- what a token has to be: a word or a symbol, one on a line that is told, a number, a constant, an operator, or a name of some kind
@@ -141,3 +141,7 @@ pub record IsTextOf (f : File) (ts : Row) : Type 0 where
 -- such tokens are read as that file, by the table of `Grammar` and by what `Drafts` declares
 abbrev pub ReadsFile : Type 0
 ReadsFile = (f : File) (ts : Row) → IsTextOf f ts → Spells f ts
+
+-- and bytes that are read as a file have the tokens of that file's text
+abbrev pub ReadsOnly : Type 0
+ReadsOnly = (bytes : List ℕ) (f : File) → IsFile bytes f → IsTextOf f (tokens bytes)

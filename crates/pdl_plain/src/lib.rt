@@ -8,7 +8,7 @@ ghost use Rattle.pdl_plain.specs.Requests.{LeavesRequest};
 ghost use Rattle.pdl_plain.specs.HeldLocations.{HoldsBefore, MarksBlocks};
 ghost use Rattle.pdl_plain.specs.StagesByText.{BeginsLast, BeginsNext};
 ghost use Rattle.pdl_plain.specs.LetterPlaces.{HasEachLetter};
-ghost use Rattle.pdl_plain.specs.NetlistTexts.{ReadsFile};
+ghost use Rattle.pdl_plain.specs.NetlistTexts.{ReadsFile, ReadsOnly};
 
 /// Signed words are whole numbers: `lts` compares these, and `sext` is the wider word of the same number.
 pub fn signed_words()
@@ -38,7 +38,8 @@ pub fn letter_places()
     ensures each { HasEachLetter }
 {}
 
-/// A text whose tokens are those of a file, line by line of the grammar, is read as that file by the table.
+/// The table reads a text as a file just where its tokens are those of that file, line by line of the grammar.
 pub fn netlist_texts()
     ensures reads { ReadsFile }
+    ensures only { ReadsOnly }
 {}
