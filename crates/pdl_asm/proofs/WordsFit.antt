@@ -38,15 +38,17 @@ number_fits bits (negsuc n) v e = signed_fits bits n v e
 
 -- ---- instructions
 
-bit_small : (a b : Bool) (n : ℕ) → (if a then 0 else if b then 1 else n % 2) ≤ 1
-bit_small true b n = omega arith
-bit_small false true n = omega arith
-bit_small false false n = omega (arith, mod-lt n {m = 2} (omega arith))
+-- what stands at a place is a bit
+pub bit_within : (a b : Bool) (n : ℕ) → (if a then 0 else if b then 1 else n % 2) ≤ 1
+bit_within true b n = omega arith
+bit_within false true n = omega arith
+bit_within false false n = omega (arith, mod-lt n {m = 2} (omega arith))
 
-bits_fit : (value : ℕ → ℕ) (bits : List ℕ) → word_of_bits value bits < 2 ^ length bits
+-- a word has no more bits than are written
+pub bits_fit : (value : ℕ → ℕ) (bits : List ℕ) → word_of_bits value bits < 2 ^ length bits
 bits_fit value [] = omega arith
 bits_fit value (c ∷ right) =
-    let one : bit_of value c right ≤ 1 = bit_small (c == 48) (c == 49) (value c / 2 ^ field_bits right c) in
+    let one : bit_of value c right ≤ 1 = bit_within (c == 48) (c == 49) (value c / 2 ^ field_bits right c) in
     let high : bit_of value c right * 2 ^ length right ≤ 1 * 2 ^ length right = mul-le-mul_right (2 ^ length right) one in
     let twice : 2 ^ length (c ∷ right) ≡ 2 ^ length right * 2 = pow-suc 2 (length right) in
     let small : bit_of value c right * 2 ^ length right + word_of_bits value right < 2 ^ length (c ∷ right) =

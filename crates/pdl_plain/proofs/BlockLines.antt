@@ -70,13 +70,11 @@ begin_chosen : chosen part.Block (codes "begin") ≡ Some rule.ArrayBegin
 unfolding chosen
 begin_chosen = refl
 
-if_chosen : chosen part.Writes (codes "if") ≡ Some rule.Written
+-- a write begins with `if`, the first one of a block and the later ones
+write_chosen : (first : Bool) → chosen (if first then part.FirstWrite else part.Writes) (codes "if") ≡ Some rule.Written
 unfolding chosen
-if_chosen = refl
-
-first_chosen : chosen part.FirstWrite (codes "if") ≡ Some rule.Written
-unfolding chosen
-first_chosen = refl
+write_chosen true = refl
+write_chosen false = refl
 
 end_chosen : chosen part.Writes (codes "end") ≡ Some rule.ArrayEnd
 unfolding chosen
@@ -92,7 +90,7 @@ writes_rest h g line [] past qs k ts d a e l v =
     (cong3 (λ y n ws. add_array_block y (block n ws)) d.file g d.line line d.writes (past ++ []) e l (v ∙ sym (append-nil past))) refl)
 writes_rest h g line (w ∷ ws) past qs k ts d a e l v =
     takes part.Writes rule.Written (write_pieces w) (all_of write_pieces ws ++ (word (codes "end") ∷ qs)) ts d h
-    (by_first part.Writes rule.Written w.line (codes "if") if_chosen) (write_match w) a (λ front back i j.
+    (by_first part.Writes rule.Written w.line (codes "if") (write_chosen false)) (write_match w) a (λ front back i j.
     writes_rest h g line ws (past ++ w ∷ []) qs
     (subst (λ z. Reads part.ArrayBlocks qs (add_array_block g (block line z)) h) (sym (append_assoc past (w ∷ []) ws)) k)
     back (taken d rule.Written front) j e l
@@ -106,7 +104,7 @@ first_writes : (h g : File) (line : ℕ) (ws : List WriteDecl) (qs : List Piece)
 first_writes h g line [] qs m k ts d a e l v = absurd (omega arith)
 first_writes h g line (w ∷ ws) qs m k ts d a e l v =
     takes part.FirstWrite rule.Written (write_pieces w) (all_of write_pieces ws ++ (word (codes "end") ∷ qs)) ts d h
-    (by_first part.FirstWrite rule.Written w.line (codes "if") first_chosen) (write_match w) a (λ front back i j.
+    (by_first part.FirstWrite rule.Written w.line (codes "if") (write_chosen true)) (write_match w) a (λ front back i j.
     writes_rest h g line ws (w ∷ []) qs k back (taken d rule.Written front) j e l
     (ap (λ z. z ++ write_decl (line_at front 0) (text_at front 2) (text_at front 4) (text_at front 6) (text_at front 9) ∷ []) v
     ∙ ap (λ x. x ∷ []) (write_value w front i)))

@@ -30,15 +30,15 @@ opening_value : (g h : File) (front : Row) → AreTokens (opening h) front
 opening_value g h _ (one_more is_first (one_more (is_named i) (one_more is_word (one_more is_word (one_more is_word (one_more is_word (one_more is_word (one_more is_first (one_more is_word (one_more is_word (one_more (is_num e) (one_more is_word (one_more is_word (one_more is_word (one_more is_word no_more))))))))))))))) =
     ap (λ (o : Option ℕ). head_file h.line h.name h.reset_line (unwrap_or o 0) g) e
 
-opening_chosen : chosen part.Start (codes "module") ≡ Some rule.Opening
+opening_chosen : (text : List ℕ) → text ≡ codes "module" → chosen part.Start text ≡ Some rule.Opening
 unfolding chosen
-opening_chosen = refl
+opening_chosen _ refl = refl
 
 -- the pieces of an opening are read as it
 pub opening_line : (x : File) (qs : List Piece) (g h : File)
     → Reads part.Ports qs (head_file x.line x.name x.reset_line x.reset_high g) h → Reads part.Start (opening x ++ qs) g h
 opening_line x qs g h k ts d a e w =
-    takes part.Start rule.Opening (opening x) qs ts d h (by_first part.Start rule.Opening x.line (codes "module") opening_chosen) (
+    takes part.Start rule.Opening (opening x) qs ts d h (by_first part.Start rule.Opening x.line (codes "module") (opening_chosen (codes "module") refl)) (
       at_first f.Module (codes "module") x.line refl,
       (
         at_module (codes "pdl_" ++ x.name),

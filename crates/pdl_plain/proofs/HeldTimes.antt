@@ -5,6 +5,7 @@ use Rattle.std.specs.Prelude.{◌&&◌, ◌==◌, map, if◌then◌else◌}
 use Rattle.pdl_semantics.specs.Flat.{list_all, Op, Bind, CombRead, DelayedRead, Write, ReserveRead, ReserveWrite, Block, Release, Call, SpecCall, Verify, SpecCheck, SpecBarrier, AdviceBind, AdviceRead, AdviceWrite, Guard, Stmt, all_hold}
 use Rattle.pdl_semantics.specs.Forms.{on_block}
 use Rattle.pdl_semantics.specs.Stages.{in_stage}
+use Rattle.pdl_machine_lockuse.proofs.HeldLocations.{held_does}
 use Rattle.pdl_semantics.specs.Machine.{HeldLocation, Deeds, is_held, let_go, held_after, held_before, deeds_after, deeds_after_all}
 use Rattle.pdl_plain.specs.HeldLocations.{path_of, takes, is_on, passed, with_one, times_held, holds, done, marks, begun, HoldsBefore, MarksBlocks}
 
@@ -84,24 +85,6 @@ before_is s env (x ∷ xs) ls m a =
 pub holds_before : HoldsBefore
 holds_before s env xs m a = held_is (held_before s env xs []) m a ∙ ap (nat_lt 0) (before_is s env xs [] m a)
 
-held_same : (read : ℕ → ℕ → ℕ) (op : Op) (d : Deeds) → (deeds_after read op d).held ≡ held_after op d.held
-held_same read (ReserveWrite k b) d = refl
-held_same read (Release k b) d = refl
-held_same read (Bind x e) d = refl
-held_same read (CombRead x k b) d = refl
-held_same read (DelayedRead x k b) d = refl
-held_same read (Write k b e) d = refl
-held_same read (ReserveRead k b) d = refl
-held_same read (Block k b) d = refl
-held_same read (Call args) d = refl
-held_same read (SpecCall args) d = refl
-held_same read (Verify last args) d = grind arith
-held_same read SpecCheck d = refl
-held_same read SpecBarrier d = refl
-held_same read (AdviceBind x e) d = refl
-held_same read (AdviceRead x k b) d = refl
-held_same read (AdviceWrite k b e) d = refl
-
 blocks_after : (read : ℕ → ℕ → ℕ) (op : Op) (d : Deeds)
     → map (λ b. b.writes) (deeds_after read op d).blocks ≡ map (λ b. b.writes) d.blocks ++ on_block (λ m a. is_held d.held m a ∷ []) [] op
 blocks_after read (Block k b) d = map-append (λ b. b.writes) d.blocks _
@@ -147,7 +130,7 @@ times_more m a (y ∷ ys) x n = times_more m a ys x (with_one m a y.op n)
 held_more : (read : ℕ → ℕ → ℕ) (x : Stmt) (d : Deeds) (before : List Stmt) → ((m a : ℕ) → count d.held m a ≡ times_held m a before 0)
     → (m a : ℕ) → count (deeds_after read x.op d).held m a ≡ times_held m a (before ++ x ∷ []) 0
 held_more read x d before h m a =
-    ap (λ ls. count ls m a) (held_same read x.op d) ∙ after_is x.op d.held m a ∙ ap (with_one m a x.op) (h m a) ∙ sym (times_more m a before x 0)
+    ap (λ ls. count ls m a) (held_does read x.op d) ∙ after_is x.op d.held m a ∙ ap (with_one m a x.op) (h m a) ∙ sym (times_more m a before x 0)
 
 marks_then : (read : ℕ → ℕ → ℕ) (x : Stmt) (xs : List Stmt) (d : Deeds) (before : List Stmt)
     → ((m a : ℕ) → count d.held m a ≡ times_held m a before 0)

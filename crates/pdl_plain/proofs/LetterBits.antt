@@ -6,24 +6,11 @@ use Rattle.std.proofs.lemmas.Nat.{pow_pos, pow-add}
 use Rattle.std.proofs.lemmas.List.{map-append}
 use Rattle.std.proofs.lemmas.List.Sums.{sum_by-cons}
 use Rattle.pdl_asm.specs.Values.{bit_of, field_bits, word_of_bits}
+use Rattle.pdl_asm.proofs.WordsFit.{bit_within, bits_fit}
 use Rattle.pdl_plain.specs.LetterPlaces.{places_of, bit_at, bit_of_letter, bits_of_letter, HasEachLetter}
 
-small : (a b : Bool) (n : ℕ) → (if a then 0 else if b then 1 else n % 2) ≤ 1
-small true b n = omega arith
-small false true n = omega arith
-small false false n = omega (arith, mod-lt n {m = 2} (omega arith))
-
 bit_small : (value : ℕ → ℕ) (c : ℕ) (right : List ℕ) → bit_of value c right ≤ 1
-bit_small value c right = small (c == 48) (c == 49) (value c / 2 ^ field_bits right c)
-
-below : (value : ℕ → ℕ) (bits : List ℕ) → word_of_bits value bits < 2 ^ length bits
-below value [] = omega arith
-below value (c ∷ right) =
-    let high : bit_of value c right * 2 ^ length right ≤ 1 * 2 ^ length right = mul-le-mul_right (2 ^ length right) (bit_small value c right) in
-    let twice : 2 ^ length (c ∷ right) ≡ 2 ^ length right * 2 = pow-suc 2 (length right) in
-    let less : bit_of value c right * 2 ^ length right + word_of_bits value right < 2 ^ length (c ∷ right) =
-    omega (arith, high, below value right, twice) in
-    less
+bit_small value c right = bit_within (c == 48) (c == 49) (value c / 2 ^ field_bits right c)
 
 -- a higher bit changes none below it
 low_bit : (b w n p : ℕ) → p < n → bit_at (b * 2 ^ n + w) p ≡ bit_at w p
@@ -87,7 +74,7 @@ at_one value c x right h true e =
     let w : ℕ = word_of_bits value right in
     let n : ℕ = length right in
     let top : bit_at (b * 2 ^ n + w) n ≡ bit_of_letter value c (length (places_of c right)) =
-    top_bit b w n (bit_small value x right) (below value right)
+    top_bit b w n (bit_small value x right) (bits_fit value right)
     ∙ (ap (λ y. bit_of value y right) (same_letter x c e) ∙ ap (bit_of_letter value c) (sym (counted c right))) in
     map-append (bit_at (b * 2 ^ n + w)) (places_of c right) (n ∷ [])
     ∙ (ap₂ (λ l z. l ++ z ∷ []) (low_places c right b w n (omega arith) ∙ h) top
@@ -104,4 +91,4 @@ at_each value (x ∷ right) c = at_one value c x right (at_each value right c) (
 
 -- the word of bits has each letter's bits at its places
 pub has_each : HasEachLetter
-has_each value bits = record { below = below value bits; at = at_each value bits }
+has_each value bits = record { below = bits_fit value bits; at = at_each value bits }

@@ -11,5 +11,6 @@ pub mod DrivenLines
 pub mod BlockLines
 pub mod FileTexts
 pub mod ItemTokens
+pub mod TableRests
 pub mod TableTexts
 pub mod BothWays

@@ -15,20 +15,18 @@ low_is w a h = grind arith
 high_is : (w a : ℕ) → 2 ^ (w - 1) ≤ a → to_signed w a ≡ pos a -ℤ pos (2 ^ w)
 high_is w a h = grind arith
 
-raised_low : (w a : ℕ) → 1 ≤ w → a < 2 ^ (w - 1) → sign_shifted w a ≡ a + 2 ^ (w - 1)
-raised_low w a l h = mod-eq_of_lt (omega (arith, halves w l))
-
-raised_high : (w a : ℕ) → 1 ≤ w → 2 ^ (w - 1) ≤ a → a < 2 ^ w → sign_shifted w a ≡ a - 2 ^ (w - 1)
-raised_high w a l h k =
-    let e : a + 2 ^ (w - 1) ≡ a - 2 ^ (w - 1) + 2 ^ w = omega (arith, halves w l) in
-    ap (λ x. x % 2 ^ w) e ∙ add-mod_right (a - 2 ^ (w - 1)) (2 ^ w) ∙ mod-eq_of_lt (omega (arith, pow_pos (w - 1)))
-
 -- the whole number is what is compared, less half of the range
 centred : (w a : ℕ) → 1 ≤ w → a < 2 ^ w → to_signed w a ≡ pos (sign_shifted w a) -ℤ pos (2 ^ (w - 1))
 centred w a l h =
     elim (cases_lt a (2 ^ (w - 1))) [
-      | inl low ↦ low_is w a low ∙ omega (arith, ints, raised_low w a l low)
-      | inr high ↦ high_is w a high ∙ omega (arith, ints, halves w l, raised_high w a l high h)
+      | inl low ↦
+          let e : sign_shifted w a ≡ a + 2 ^ (w - 1) = mod-eq_of_lt (omega (arith, halves w l)) in
+          low_is w a low ∙ omega (arith, ints, e)
+      | inr high ↦
+          let e : a + 2 ^ (w - 1) ≡ a - 2 ^ (w - 1) + 2 ^ w = omega (arith, halves w l) in
+          let f : sign_shifted w a ≡ a - 2 ^ (w - 1) =
+          ap (λ x. x % 2 ^ w) e ∙ add-mod_right (a - 2 ^ (w - 1)) (2 ^ w) ∙ mod-eq_of_lt (omega (arith, pow_pos (w - 1))) in
+          high_is w a high ∙ omega (arith, ints, halves w l, f)
     ]
 
 same_order : (x y c : ℕ) → nat_lt x y ≡ int_lt (pos x -ℤ pos c) (pos y -ℤ pos c)
