@@ -1,0 +1,105 @@
+#!/usr/bin/env python3
+"""Changes definitions by one step each, and says which changes no row of tests/ notices.
+
+    row_mutants.py [--tests NAME,..] [--only WORD] CRATE:FILE..
+
+FILE is a file of the crate's specs/, as pdl_image:Images. The definitions are made Python functions (tools/pdl_definitions), and answer
+the rows of tests/, of these files of it where they are named. What tools/definition_mutants.py makes of each line of a clause
+is put in the place of that line, and so is the answer of the clause beside it. A change is noticed where a row that calls the
+function is answered otherwise. The others are printed: definition and program could be wrong alike there without notice, or the
+line means the same. The last line has the numbers. Where no row calls a function, that is told of it once.
+"""
+
+import collections
+
+import definition_mutants
+import definitions
+import usage
+from pdl_definitions import answers, loaded, noticed, rows
+from pdl_definitions.lexer import Function
+
+
+def changes(it):
+    """The functions that differ from one in a line of a clause, each with that line, old and new."""
+    for place, (text, inside) in enumerate(it.clauses):
+        lines = text.split("\n")
+        for number, line in enumerate(lines):
+            for other in definition_mutants.mutants(line) + beside(it, place, line):
+                changed = "\n".join([*lines[:number], other, *lines[number + 1 :]])
+                clauses = [*it.clauses[:place], (changed, inside), *it.clauses[place + 1 :]]
+                yield Function(it.name, it.type, clauses), line.strip(), other.strip()
+
+
+def beside(it, place, line):
+    """The line with the answer of the clause after it, where both are single words."""
+    head, _, body = line.partition(" = ")
+    if place + 1 < len(it.clauses):
+        _, _, other = it.clauses[place + 1][0].partition(" = ")
+        if body != other and all(word.replace(".", "").replace("_", "").isalnum() for word in (body, other)):
+            return [f"{head} = {other}"]
+    return []
+
+
+def relation_changes(text):
+    """The texts of the grammar that differ in one token of a constructor, each with the line, old and new."""
+    rows_ = text.split("\n")
+    inside = False
+    for number, row in enumerate(rows_):
+        inside = inside and (row.startswith(" ") or not row) or " data " in f" {row} "
+        if inside and not row.strip().startswith("--"):
+            for other in definition_mutants.token_mutants(row):
+                yield "\n".join([*rows_[:number], other, *rows_[number + 1 :]]), row.strip(), other.strip()
+
+
+def report(found, told):
+    """Counts what noticed a change, and prints the change where nothing did."""
+    by, old, new = told
+    kind = "noticed" if by and by.startswith("tests/") else by.split(":")[0] if by else "let through"
+    found[kind] += 1
+    if kind != "noticed":
+        print(f"{by or 'let through'}: {difference(old, new)}", flush=True)
+
+
+def difference(old, new):
+    """A line with what differs of another one."""
+    ends = zip(old, new), zip(reversed(old), reversed(new))
+    first, last = (next((k for k, (a, b) in enumerate(pairs) if a != b), min(len(old), len(new))) for pairs in ends)
+    last = min(last, min(len(old), len(new)) - first)
+    begins, stops = max(first - 40, 0), 25
+    head = "" if begins < 60 else old[:25] + ".. "
+    return f"{head}{old[begins:first]}[{old[first:len(old) - last]} > {new[first:len(new) - last]}]{old[len(old) - last:][:stops]}"
+
+
+def tried(asked, place, only):
+    """What notices each change of a file."""
+    found = collections.Counter()
+    for key, it in list(asked.asked.all.sources.items()):
+        if key[:2] == place and only in it.name:
+            for other, old, new in changes(it):
+                report(found, (asked.function(key, other), old, new))
+    return found
+
+
+def main():
+    usage.helps(__doc__)
+    words = usage.Words()
+    words.add_argument("place", nargs="+")
+    words.add_argument("--tests", default="")
+    words.add_argument("--only", default="")
+    it = words.parse_args()
+    grammar_text = (definitions.TOP / "crates/pdl_syntax_grammar/specs/Grammar.antt").read_text()
+    all_definitions = loaded.Definitions(answers.CRATES)
+    asked = noticed.Noticed(answers.Answers(all_definitions, grammar_text), rows.rows_of([*filter(None, it.tests.split(","))]))
+    print(f"{len(asked.known)} rows are answered right, {len(asked.wrong)} otherwise, {len(asked.slow)} not in time", flush=True)
+    for place in it.place:
+        print(f"==== {place}", flush=True)
+        found = tried(asked, tuple(place.split(":")), it.only)
+        if place == "pdl_syntax_grammar:Grammar" and not it.only:
+            for text, old, new in relation_changes(grammar_text):
+                report(found, (asked.relations(text), old, new))
+        told = ", ".join(f"{count} {kind}" for kind, count in sorted(found.items()))
+        print(f"{sum(found.values())} of {place}: {told}", flush=True)
+
+
+if __name__ == "__main__":
+    usage.runs(main)
