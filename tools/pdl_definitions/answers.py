@@ -33,6 +33,32 @@ class Answers:
     def __init__(self, all_definitions, grammar_text):
         self.all = all_definitions
         self.grammar = grammar.Grammar(all_definitions, grammar_text)
+        # What was found before, with the functions that it took; and the name of the function that is another now.
+        self.found, self.changed = {}, None
+
+    def remembered(self, key, make, *given):
+        """What is made, or was made before without a function that is another now; so of a refusal."""
+        if key not in self.found or self.changed in self.found[key][1]:
+            before = set(self.all.seen)
+            self.all.seen.clear()
+            try:
+                made = make(*given), None
+            except Refused as refusal:
+                made = None, refusal
+            known = made, frozenset(self.all.seen)
+            self.all.seen.update(before)
+            if self.changed is not None:
+                return self.given(made)
+            self.found[key] = known
+        made, calls = self.found[key]
+        self.all.seen.update(calls)
+        return self.given(made)
+
+    @staticmethod
+    def given(made):
+        if made[1]:
+            raise made[1]
+        return made[0]
 
     def call(self, place, *given):
         return self.all[tuple(place.split("."))](*given)
@@ -66,6 +92,11 @@ class Answers:
 
     def pipe(self, source):
         """The pipe of a source that breaks no rule."""
+        return self.remembered(("pipe", source), self.judged, source, self.remembered(("tree", source), self.tree, source))
+
+    def tree(self, source):
+        """The pipe of a text in the grammar."""
+        self.all.seen.add("grammar")
         text = codes(source)
         tokens = list(items(self.call("pdl_syntax_tokens.Tokens.tokens", text)))
         wrong = self.past_limits(tokens)
@@ -76,6 +107,12 @@ class Answers:
         if wrong is not None:
             line = self.call("pdl_syntax_grammar.Text.line_of", linked(tokens[wrong:]), self.call("pdl_syntax_tokens.Tokens.last_line", text))
             raise Refused(f"G1 line {line}")
+        return pipe
+
+    def judged(self, source, pipe):
+        """The pipe where it breaks no rule."""
+        self.all.seen.add("grammar")
+        text = codes(source)
         refusal = self.call("pdl_rules.Refusal.refusal", text, pipe)
         if refusal.name == "Some":
             raise Refused(f"{refusal.parts[0].rule.name} line {refusal.parts[0].line}")
@@ -129,6 +166,10 @@ class Answers:
 
     def netlist(self, text):
         """The netlist of a text that breaks no rule."""
+        return self.remembered(("netlist", text), lambda: self.wired(self.remembered(("file", text), self.file, text)))
+
+    def file(self, text):
+        """What a text in the grammar declares."""
         place = "pdl_vread_text."
         tokens = list(items(self.call(place + "Tokens.tokens", codes(text))))
         taken, part, at = [], library.Made("Start"), 0
@@ -143,7 +184,7 @@ class Answers:
                 at += 1
             taken.append(Record(rule=rule.parts[0], found=linked(tokens[at - len(fields) : at])))
             part = self.call(place + "Grammar.next", rule.parts[0])
-        return self.wired(self.call(place + "Drafts.file_of", linked(taken)))
+        return self.call(place + "Drafts.file_of", linked(taken))
 
     def misplaced(self, text, tokens, at):
         line = self.call("pdl_vread_text.Text.line_of", linked(tokens[at:]), self.call("pdl_vread_text.Tokens.last_line", codes(text)))

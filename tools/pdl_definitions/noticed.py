@@ -98,18 +98,20 @@ class Noticed:
             self.asked.all.changed(key, it)
         except (Unreadable, SyntaxError, KeyError) as why:
             return f"ill-formed: {why}"
+        self.asked.changed = name
         try:
             return self.by_row(rows) if rows else "no row calls it"
         finally:
+            self.asked.changed = None
             self.asked.all.restored()
 
     def relations(self, text):
         """What notices other relations of the grammar."""
-        kept = self.asked.grammar
+        kept, self.asked.changed = self.asked.grammar, "grammar"
         try:
             self.asked.grammar = grammar.Grammar(self.asked.all, text)
             return self.by_row([it for it in self.known if it.row.words[0][1] in ("check", "run", "seq", "view")])
         except (Unreadable, StopIteration) as why:
             return f"ill-formed: {why}"
         finally:
-            self.asked.grammar = kept
+            self.asked.grammar, self.asked.changed = kept, None
