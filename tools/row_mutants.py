@@ -87,9 +87,17 @@ def main():
     words.add_argument("--tests", default="")
     words.add_argument("--only", default="")
     it = words.parse_args()
+    names = [*filter(None, it.tests.split(","))]
+    for name in names:
+        if not (definitions.TOP / "tests" / name).is_file():
+            usage.ends(f"`{name}` is no file of tests/")
+    for place in it.place:
+        crate, _, file = place.partition(":")
+        if not (definitions.TOP / f"crates/{crate}/specs/{file}.antt").is_file() or crate not in answers.CRATES:
+            usage.ends(f"`{place}` is no CRATE:FILE of definitions that answer rows")
     grammar_text = (definitions.TOP / "crates/pdl_syntax_grammar/specs/Grammar.antt").read_text()
     all_definitions = loaded.Definitions(answers.CRATES)
-    asked = noticed.Noticed(answers.Answers(all_definitions, grammar_text), rows.rows_of([*filter(None, it.tests.split(","))]))
+    asked = noticed.Noticed(answers.Answers(all_definitions, grammar_text), rows.rows_of(names))
     print(f"{len(asked.known)} rows are answered right, {len(asked.wrong)} otherwise, {len(asked.slow)} not in time", flush=True)
     for place in it.place:
         print(f"==== {place}", flush=True)
