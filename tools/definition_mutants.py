@@ -19,7 +19,7 @@ import usage
 TOP = pathlib.Path(__file__).resolve().parent.parent
 SWAPS = [(" < ", " ≤ "), (" ≤ ", " < "), (" + ", " - "), (" - ", " + "), (" && ", " || "), (" || ", " && "), (" ⊎ ", " × "),
          (" == ", " < "), ("true", "false"), ("false", "true"), ("Some", "None"), (" ++ ", None), ("nat_le", "nat_lt"),
-         ("nat_lt", "nat_le"), (".from", ".to"), (".to", ".from"), (".line", ".start"), ("suc ", "")]
+         ("nat_lt", "nat_le"), (".from", ".to"), (".to", ".from"), (".span.line", ".span.start"), ("suc ", "")]
 
 
 def numbered(row):

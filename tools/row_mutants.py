@@ -7,7 +7,8 @@ FILE is a file of the crate's specs/, as pdl_image:Images. The definitions are m
 the rows of tests/, of these files of it where they are named. What tools/definition_mutants.py makes of each line of a clause
 is put in the place of that line, and so is the answer of the clause beside it. A change is noticed where a row that calls the
 function is answered otherwise. The others are printed: definition and program could be wrong alike there without notice, or the
-line means the same. The last line has the numbers. Where no row calls a function, that is told of it once.
+line means the same. Those that do, with their reasons, are in tools/pdl_definitions/alike.py, and aren't printed. A change by
+which a value has another type, or that isn't read, is ill-formed. The last line of a file has the numbers.
 """
 
 import collections
@@ -15,7 +16,7 @@ import collections
 import definition_mutants
 import definitions
 import usage
-from pdl_definitions import answers, loaded, noticed, rows
+from pdl_definitions import alike, answers, loaded, noticed, rows
 from pdl_definitions.lexer import Function
 
 
@@ -24,7 +25,7 @@ def changes(it):
     for place, (text, inside) in enumerate(it.clauses):
         lines = text.split("\n")
         for number, line in enumerate(lines):
-            for other in definition_mutants.mutants(line) + beside(it, place, line):
+            for other in dict.fromkeys(definition_mutants.mutants(line) + beside(it, place, line)):
                 changed = "\n".join([*lines[:number], other, *lines[number + 1 :]])
                 clauses = [*it.clauses[:place], (changed, inside), *it.clauses[place + 1 :]]
                 yield Function(it.name, it.type, clauses), line.strip(), other.strip()
@@ -51,13 +52,23 @@ def relation_changes(text):
                 yield "\n".join([*rows_[:number], other, *rows_[number + 1 :]]), row.strip(), other.strip()
 
 
-def report(found, told):
-    """Counts what noticed a change, and prints the change where nothing did."""
-    by, old, new = told
-    kind = "noticed" if by and by.startswith("tests/") else by.split(":")[0] if by else "let through"
-    found[kind] += 1
-    if kind != "noticed":
-        print(f"{by or 'let through'}: {difference(old, new)}", flush=True)
+def kind_of(by):
+    """What became of a change that this noticed."""
+    return "let through" if by is None else "noticed" if by.startswith("tests/") else by.split(":")[0]
+
+
+def report(found, function, told):
+    """Counts what noticed the changes of a function, and prints those that nothing did, unless they are known to mean the same."""
+    kinds = [kind_of(by) for by, _, _ in told]
+    alike = alike_of(function, kinds.count("let through"))
+    found.update("means the same" if kind == "let through" and alike else kind for kind in kinds)
+    for kind, (by, old, new) in zip(kinds, told):
+        if kind != "noticed" and not (kind == "let through" and alike):
+            print(f"{by or kind}: {function}: {difference(old, new)}", flush=True)
+
+
+def alike_of(function, count):
+    return alike.ALIKE.get(function, (0, ""))[0] == count > 0
 
 
 def difference(old, new):
@@ -75,8 +86,7 @@ def tried(asked, place, only):
     found = collections.Counter()
     for key, it in list(asked.asked.all.sources.items()):
         if key[:2] == place and only in it.name:
-            for other, old, new in changes(it):
-                report(found, (asked.function(key, other), old, new))
+            report(found, f"{key[0]}:{key[1]}.{key[2]}", [(asked.function(key, other), old, new) for other, old, new in changes(it)])
     return found
 
 
@@ -103,8 +113,7 @@ def main():
         print(f"==== {place}", flush=True)
         found = tried(asked, tuple(place.split(":")), it.only)
         if place == "pdl_syntax_grammar:Grammar" and not it.only:
-            for text, old, new in relation_changes(grammar_text):
-                report(found, (asked.relations(text), old, new))
+            report(found, place, [(asked.relations(text), old, new) for text, old, new in relation_changes(grammar_text)])
         told = ", ".join(f"{count} {kind}" for kind, count in sorted(found.items()))
         print(f"{sum(found.values())} of {place}: {told}", flush=True)
 

@@ -7,8 +7,8 @@ from typing import NamedTuple
 from . import answers, grammar
 from .lexer import Unreadable
 
-# So many CPU seconds a row may take, and all rows of one change.
-MOST, MOST_TOGETHER = 20, 90
+# So many CPU seconds a row may take, and all rows of one change; so many bytes the texts of a row may have.
+MOST, MOST_TOGETHER, MOST_BYTES = 8, 90, 50000
 
 
 class TooLong(Exception):
@@ -48,6 +48,9 @@ class Noticed:
 
     def learn(self, row):
         self.forget()
+        if sum(len(text) for _, text in row.words) > MOST_BYTES:
+            self.slow.append(row)
+            return
         begun = spent()
         try:
             said = self.said(row)
