@@ -52,7 +52,7 @@ def swapped(row):
 
 def listed(row):
     """The row with each text a byte shorter, with each rule the next of its letter, and with an element of its list left out."""
-    for found in re.finditer(r'(codes "[^"]+)([^"\\])"', row):
+    for found in re.finditer(r'(codes "[^"]+)(?<!\\)([^"\\])"', row):
         yield row[:found.start()] + found[1] + '"' + row[found.end():]
     for found in re.finditer(r"(?<![\w.])([A-Z])(\d)(?!\w)", row):
         yield row[:found.start()] + found[1] + str(int(found[2]) % 8 + 1) + row[found.end():]
