@@ -50,14 +50,17 @@ def swapped(row):
         yield f"{found[1]}{found[3]} ++ {found[2]}"
 
 
+LISTED = re.compile(
+    r'(?:(?:range|spelt) )?(?:codes "[^"]*"|\(codes "[^"]*"\) [\w.]+|(?<![\w.) ])[a-z]\.\w+|(?<=∷ )[a-z]\.\w+) ∷ ')
+
+
 def listed(row):
     """The row with each text a byte shorter, with each rule the next of its letter, and with an element of its list left out."""
     for found in re.finditer(r'(codes "[^"]+)(?<!\\)([^"\\])"', row):
         yield row[:found.start()] + found[1] + '"' + row[found.end():]
     for found in re.finditer(r"(?<![\w.])([A-Z])(\d)(?!\w)", row):
         yield row[:found.start()] + found[1] + str(int(found[2]) % 8 + 1) + row[found.end():]
-    for found in re.finditer(r'(?:(?:range|spelt) )?(?:codes "[^"]*"|\(codes "[^"]*"\) [\w.]+|(?<![\w.) ])[a-z]\.\w+|(?<=∷ )[a-z]\.\w+) ∷ ', row):
-        yield row[:found.start()] + row[found.end():]
+    yield from (row[:found.start()] + row[found.end():] for found in LISTED.finditer(row))
 
 
 def conditions(row):
@@ -82,21 +85,24 @@ def closing(row, at):
 
 NEXT_MARKS = {"Comma": "Semicolon", "Semicolon": "Comma", "OpenRound": "OpenSquare", "OpenSquare": "OpenRound",
               "CloseRound": "CloseSquare", "CloseSquare": "CloseRound", "OpenBrace": "OpenRound", "CloseBrace": "CloseRound"}
+TOKEN_OF_ROW = re.compile(r"(?:at|on) \w+ (?:mark\.\w+|kind\.\w+|\((?:kind|mark_of|lock_mark|pace_mark)[\w. ]*\)) ∷ ")
+# What stands in a constructor of the grammar, and what may stand there instead.
+RELATED = [
+    ("suc (loose op)", "loose op"), ("(loose op)", "(suc (loose op))"), ("Level 0 e", "Full e"), ("Full x", "Level 0 x"),
+    ("Full y", "Level 0 y"), ("Full e", "Level 0 e"), ("Full v", "Level 0 v"), ("x y)", "y x)"), ("Choose c x y", "Choose x c y"),
+    ("x.span e.span", "e.span x.span"), ("w.span e.span", "e.span w.span"), ("s.span e.span", "e.span s.span"),
+    ("m.span e.span", "e.span m.span"), ("end = e.span", "end = k.span"), ("(Reserve (", "(Block ("),
+    ("first second", "second first"), ("number h high", "number l low"), ("number l low", "number h high"),
+    ("location m a", "location a m"), ("ident x", "ident c"), ("number w n", "number d n")]
 
 
 def token_mutants(row):
-    """A line of a constructor of the grammar with a token left out or another, or with a level that is another."""
-    for found in re.finditer(r"(?:at|on) \w+ (?:mark\.\w+|kind\.\w+|\((?:kind|mark_of|lock_mark|pace_mark)[\w. ]*\)) ∷ ", row):
-        yield row[:found.start()] + row[found.end():]
+    """A line of a constructor of the grammar with a token left out or another, or with something that is related."""
+    yield from (row[:found.start()] + row[found.end():] for found in TOKEN_OF_ROW.finditer(row))
     for found in re.finditer(r"mark\.(\w+)", row):
         yield f"{row[:found.start()]}mark.{NEXT_MARKS.get(found[1], 'Comma')}{row[found.end():]}"
-    for old, new in ("suc (loose op)", "loose op"), ("(loose op)", "(suc (loose op))"), ("Level 0 e", "Full e"), ("Full x", "Level 0 x"), \
-            ("Full y", "Level 0 y"), ("x y)", "y x)"), ("Choose c x y", "Choose x c y"), ("Full e", "Level 0 e"), ("Full v", "Level 0 v"), \
-            ("x.span e.span", "e.span x.span"), ("w.span e.span", "e.span w.span"), ("(Reserve (", "(Block ("), ("first second", "second first"), \
-            ("number h high", "number l low"), ("number l low", "number h high"), ("s.span e.span", "e.span s.span"), ("m.span e.span", "e.span m.span"), \
-            ("location m a", "location a m"), ("end = e.span", "end = k.span"), ("ident x", "ident c"), ("number w n", "number d n"):
-        for found in re.finditer(re.escape(old), row):
-            yield row[:found.start()] + new + row[found.end():]
+    for old, new in RELATED:
+        yield from (row[:found.start()] + new + row[found.end():] for found in re.finditer(re.escape(old), row))
 
 
 def mutants(row):

@@ -3,8 +3,8 @@
 
     row_mutants.py [--tests NAME,..] [--only WORD] CRATE:FILE..
 
-FILE is a file of the crate's specs/, as pdl_image:Images. The definitions are made Python functions (tools/pdl_definitions), and answer
-the rows of tests/, of these files of it where they are named. What tools/definition_mutants.py makes of each line of a clause
+FILE is a file of the crate's specs/, as pdl_image:Images. The definitions are made Python functions (tools/pdl_definitions),
+and answer the rows of tests/, of these files of it where they are named. What tools/definition_mutants.py makes of each line of a clause
 is put in the place of that line, and so is the answer of the clause beside it. A change is noticed where a row that calls the
 function is answered otherwise. The others are printed: definition and program could be wrong alike there without notice, or the
 line means the same. Those that do, with their reasons, are in tools/pdl_definitions/alike.py, and aren't printed. A change by
@@ -58,7 +58,7 @@ def kind_of(by):
 
 
 def report(found, function, told):
-    """Counts what noticed the changes of a function, and prints those that nothing did, unless they are known to mean the same."""
+    """Counts what noticed a function's changes, and prints those that nothing did, unless they are known to mean the same."""
     kinds = [kind_of(by) for by, _, _ in told]
     alike = alike_of(function, kinds.count("let through"))
     found.update("means the same" if kind == "let through" and alike else kind for kind in kinds)
@@ -78,7 +78,8 @@ def difference(old, new):
     last = min(last, min(len(old), len(new)) - first)
     begins, stops = max(first - 40, 0), 25
     head = "" if begins < 60 else old[:25] + ".. "
-    return f"{head}{old[begins:first]}[{old[first:len(old) - last]} > {new[first:len(new) - last]}]{old[len(old) - last:][:stops]}"
+    change = f"[{old[first : len(old) - last]} > {new[first : len(new) - last]}]"
+    return f"{head}{old[begins:first]}{change}{old[len(old) - last :][:stops]}"
 
 
 def tried(asked, place, only):
@@ -86,7 +87,8 @@ def tried(asked, place, only):
     found = collections.Counter()
     for key, it in list(asked.asked.all.sources.items()):
         if key[:2] == place and only in it.name:
-            report(found, f"{key[0]}:{key[1]}.{key[2]}", [(asked.function(key, other), old, new) for other, old, new in changes(it)])
+            told = [(asked.function(key, other), old, new) for other, old, new in changes(it)]
+            report(found, f"{key[0]}:{key[1]}.{key[2]}", told)
     return found
 
 

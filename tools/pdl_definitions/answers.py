@@ -105,8 +105,8 @@ class Answers:
         except grammar.Misplaced as at:
             wrong = at.args[0]
         if wrong is not None:
-            line = self.call("pdl_syntax_grammar.Text.line_of", linked(tokens[wrong:]), self.call("pdl_syntax_tokens.Tokens.last_line", text))
-            raise Refused(f"G1 line {line}")
+            last = self.call("pdl_syntax_tokens.Tokens.last_line", text)
+            raise Refused(f"G1 line {self.call('pdl_syntax_grammar.Text.line_of', linked(tokens[wrong:]), last)}")
         return pipe
 
     def judged(self, source, pipe):
@@ -159,7 +159,8 @@ class Answers:
         if command == "seq":
             return string(self.call("pdl_semantics.Lines.seq_lines", pipe, given, count))
         places = range(sum(it.delayed for it in items(mems)))
-        schedule = linked([linked([number >> place & 1 == 1 for place in places]) for number in self.replies(mems, delays, count)])
+        replies = self.replies(mems, delays, count)
+        schedule = linked([linked([number >> place & 1 == 1 for place in places]) for number in replies])
         return string(self.call(f"pdl_semantics.Lines.{command}_lines", pipe, given, schedule))
 
     # Netlists
@@ -187,8 +188,8 @@ class Answers:
         return self.call(place + "Drafts.file_of", linked(taken))
 
     def misplaced(self, text, tokens, at):
-        line = self.call("pdl_vread_text.Text.line_of", linked(tokens[at:]), self.call("pdl_vread_text.Tokens.last_line", codes(text)))
-        raise Refused(f"V1 line {line}")
+        last = self.call("pdl_vread_text.Tokens.last_line", codes(text))
+        raise Refused(f"V1 line {self.call('pdl_vread_text.Text.line_of', linked(tokens[at:]), last)}")
 
     def wired(self, file):
         """The netlist of a file."""
