@@ -32,9 +32,9 @@ class Answers:
 
     def __init__(self, all_definitions, grammar_text):
         self.all = all_definitions
-        self.grammar = grammar.Grammar(all_definitions, grammar_text)
+        self.grammar, self.grammar_text = grammar.Grammar(all_definitions, grammar_text), grammar_text
         # What was found before, with the functions that it took; and the name of the function that is another now.
-        self.found, self.changed = {}, None
+        self.found, self.trees, self.changed = {}, {}, None
 
     def remembered(self, key, make, *given):
         """What is made, or was made before without a function that is another now; so of a refusal."""
@@ -92,7 +92,11 @@ class Answers:
 
     def pipe(self, source):
         """The pipe of a source that breaks no rule."""
-        return self.remembered(("pipe", source), self.judged, source, self.remembered(("tree", source), self.tree, source))
+        tree = self.remembered(("tree", source), self.tree, source)
+        known = self.trees.setdefault(source, tree)
+        if tree is known or tree == known:
+            return self.remembered(("pipe", source), self.judged, source, known)
+        return self.judged(source, tree)
 
     def tree(self, source):
         """The pipe of a text in the grammar."""

@@ -96,13 +96,15 @@ class Noticed:
     def function(self, key, it):
         """What notices another function in the place of one."""
         name = self.asked.all.name(key)
-        rows = [known for known in self.known if name in known.calls]
         try:
             self.asked.all.changed(key, it)
         except (Unreadable, SyntaxError, KeyError) as why:
             return f"ill-formed: {why}"
-        self.asked.changed = name
         try:
+            if key[:2] == grammar.PLACE:
+                return self.relations(self.asked.grammar_text)
+            rows = [known for known in self.known if name in known.calls]
+            self.asked.changed = name
             return self.by_row(rows) if rows else "no row calls it"
         finally:
             self.asked.changed = None
@@ -113,7 +115,7 @@ class Noticed:
         kept, self.asked.changed = self.asked.grammar, "grammar"
         try:
             self.asked.grammar = grammar.Grammar(self.asked.all, text)
-            return self.by_row([it for it in self.known if it.row.words[0][1] in ("check", "run", "seq", "view")])
+            return self.by_row([it for it in self.known if "grammar" in it.calls])
         except (Unreadable, StopIteration) as why:
             return f"ill-formed: {why}"
         finally:
