@@ -19,6 +19,7 @@ ALIKE = {
     "pdl_image:Delays.broken_row": (5, "rows of tests/late_answers notice each, of 1,000,000 and more, which are too long for this"),
     "pdl_rules:Forms.bars": (1, "a release after a `verify` isn't before it"),
     "pdl_semantics:Lines.column_at": (1, "no write is of a memory past the last"),
+    "pdl_syntax_tokens:Tokens.digit_value": (1, "only digits are asked"),
     "pdl_vread_text:Drafts.token_at": (1, "each token of a rule is there"),
     "pdl_vread_text:Drafts.number_at": (1, "where a rule asks a number there is one"),
     "pdl_vread_text:Drafts.constant_at": (2, "where a rule asks a constant there is one"),
