@@ -18,7 +18,8 @@ import usage
 
 TOP = pathlib.Path(__file__).resolve().parent.parent
 SWAPS = [(" < ", " ≤ "), (" ≤ ", " < "), (" + ", " - "), (" - ", " + "), (" && ", " || "), (" || ", " && "), (" ⊎ ", " × "),
-         (" == ", " < "), ("true", "false"), ("false", "true"), ("Some", "None"), (" ++ ", None)]
+         (" == ", " < "), ("true", "false"), ("false", "true"), ("Some", "None"), (" ++ ", None), ("nat_le", "nat_lt"),
+         ("nat_lt", "nat_le"), (".from", ".to"), (".to", ".from"), (".span.line", ".span.start"), ("suc ", "")]
 
 
 def numbered(row):
@@ -49,12 +50,67 @@ def swapped(row):
         yield f"{found[1]}{found[3]} ++ {found[2]}"
 
 
+LISTED = re.compile(
+    r'(?:(?:range|spelt) )?(?:codes "[^"]*"|\(codes "[^"]*"\) [\w.]+|(?<![\w.) ])[a-z]\.\w+|(?<=∷ )[a-z]\.\w+) ∷ ')
+
+
+def listed(row):
+    """The row with each text a byte shorter, with each rule the next of its letter, and with an element of its list left out."""
+    for found in re.finditer(r'(codes "[^"]+)(?<!\\)([^"\\])"', row):
+        yield row[:found.start()] + found[1] + '"' + row[found.end():]
+    for found in re.finditer(r"(?<![\w.])([A-Z])(\d)(?!\w)", row):
+        yield row[:found.start()] + found[1] + str(int(found[2]) % 8 + 1) + row[found.end():]
+    yield from (row[:found.start()] + row[found.end():] for found in LISTED.finditer(row))
+
+
+def conditions(row):
+    """The row with each condition of a `cond` turned."""
+    for found in re.finditer(r"\bcond (?=\()", row):
+        end = closing(row, found.end())
+        if end:
+            yield f"{row[:found.end()]}(not {row[found.end() : end]}){row[end:]}"
+    for found in re.finditer(r"\bcond ([a-z][\w.]*)", row):
+        yield f"{row[:found.start()]}cond (not {found[1]}){row[found.end():]}"
+
+
+def closing(row, at):
+    """The place after the bracket that closes the one at a place, or none where that stands in another row."""
+    depth = 0
+    for place in range(at, len(row)):
+        depth += (row[place] == "(") - (row[place] == ")")
+        if depth == 0:
+            return place + 1
+    return None
+
+
+NEXT_MARKS = {"Comma": "Semicolon", "Semicolon": "Comma", "OpenRound": "OpenSquare", "OpenSquare": "OpenRound",
+              "CloseRound": "CloseSquare", "CloseSquare": "CloseRound", "OpenBrace": "OpenRound", "CloseBrace": "CloseRound"}
+TOKEN_OF_ROW = re.compile(r"(?:at|on) \w+ (?:mark\.\w+|kind\.\w+|\((?:kind|mark_of|lock_mark|pace_mark)[\w. ]*\)) ∷ ")
+# What stands in a constructor of the grammar, and what may stand there instead.
+RELATED = [
+    ("suc (loose op)", "loose op"), ("(loose op)", "(suc (loose op))"), ("Level 0 e", "Full e"), ("Full x", "Level 0 x"),
+    ("Full y", "Level 0 y"), ("Full e", "Level 0 e"), ("Full v", "Level 0 v"), ("x y)", "y x)"), ("Choose c x y", "Choose x c y"),
+    ("x.span e.span", "e.span x.span"), ("w.span e.span", "e.span w.span"), ("s.span e.span", "e.span s.span"),
+    ("m.span e.span", "e.span m.span"), ("end = e.span", "end = k.span"), ("(Reserve (", "(Block ("),
+    ("first second", "second first"), ("number h high", "number l low"), ("number l low", "number h high"),
+    ("location m a", "location a m"), ("ident x", "ident c"), ("number w n", "number d n")]
+
+
+def token_mutants(row):
+    """A line of a constructor of the grammar with a token left out or another, or with something that is related."""
+    yield from (row[:found.start()] + row[found.end():] for found in TOKEN_OF_ROW.finditer(row))
+    for found in re.finditer(r"mark\.(\w+)", row):
+        yield f"{row[:found.start()]}mark.{NEXT_MARKS.get(found[1], 'Comma')}{row[found.end():]}"
+    for old, new in RELATED:
+        yield from (row[:found.start()] + new + row[found.end():] for found in re.finditer(re.escape(old), row))
+
+
 def mutants(row):
     """The texts that differ from a row in one place, each once. The head of a definition, and its patterns, stay as they are."""
     head, sign, body = row.partition(" = ")
     if not sign:
         head, body = "", row
-    made = {head + sign + it for by in (numbered, turned, swapped) for it in by(body)}
+    made = {head + sign + it for by in (numbered, turned, swapped, listed, conditions) for it in by(body)}
     return sorted(made - {row})
 
 
