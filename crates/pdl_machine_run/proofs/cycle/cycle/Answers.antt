@@ -2,6 +2,7 @@ use Rattle.std.proofs.Common.{◌≡◌, ◌++◌, ◌∷◌, ◌∙◌, [], sym
 use Rattle.pdl_word.specs.Words.{bit}
 use Rattle.pdl_semantics.specs.Cycle as stated
 use Rattle.pdl_machine_facts.specs.Ports.{stage_values}
+use Rattle.pdl_machine_facts.proofs.TwiceFlags.{flag_count}
 use Rattle.pdl_form.specs.FormView.{form}
 use Rattle.pdl_machine_run.specs.View.{thread_in}
 use Rattle.pdl_machine_run.specs.Acts.{acts_of, are_held, are_moving, one_ends, commits_shown}
