@@ -1,5 +1,5 @@
 -- The lines that declare: the opening of a text, its ports, registers and arrays.
-use Rattle.std.proofs.Common.{◌≡◌, ℕ, Bool, true, false, if◌then◌else◌, inl, inr, List, [], ◌∷◌, ◌++◌, drop, codes, Option, Some, unwrap_or, refl, ap, ◌∙◌}
+use Rattle.std.proofs.Common.{◌≡◌, ℕ, Bool, true, false, if◌then◌else◌, inl, inr, List, [], ◌∷◌, ◌++◌, drop, codes, Option, Some, unwrap_or, refl, ap, ◌∙◌, subst, sym}
 use Rattle.std.proofs.lemmas.Bool.{cond-true}
 use Rattle.pdl_vread_text.specs.declared.field.Field.TheVariants as f
 use Rattle.pdl_vread_text.specs.declared.part.Part.{Part}
@@ -32,7 +32,7 @@ opening_value g h _ (one_more is_first (one_more (is_named i) (one_more is_word 
 
 opening_chosen : (text : List ℕ) → text ≡ codes "module" → chosen part.Start text ≡ Some rule.Opening
 unfolding chosen
-opening_chosen _ refl = refl
+opening_chosen text e = subst (λ x. chosen part.Start x ≡ Some rule.Opening) (sym e) refl
 
 -- the pieces of an opening are read as it
 pub opening_line : (x : File) (qs : List Piece) (g h : File)
