@@ -16,7 +16,7 @@ ALIKE = {
     "pdl_asm:Assembly.addresses": (1, "no line's place is 65,536"),
     "pdl_image:Images.is_name_byte": (1, "a letter may stand in a name as well"),
     "pdl_image:Delays.row_word": (1, "no memory has the bit past the last"),
-    "pdl_image:Delays.broken_row": (5, "rows of tests/late_answers notice each, of 1,000,000 and more, which are too long for this"),
+    "pdl_image:Delays.broken_row": (5, "rows of tests/late_answers notice each, of 1,000,000 and more, too long for this"),
     "pdl_rules:Forms.bars": (1, "a release after a `verify` isn't before it"),
     "pdl_semantics:Lines.column_at": (1, "no write is of a memory past the last"),
     "pdl_syntax_tokens:Tokens.digit_value": (1, "only digits are asked"),

@@ -159,10 +159,14 @@ class Answers:
             raise Refused(f"{rule.name} {at} {line}")
         return result.parts[0]
 
+    def delay_rows(self, mems, delays):
+        """The rows of a delay file, none where there is no such file."""
+        count = sum(it.delayed for it in items(mems))
+        return self.read("pdl_image.Delays.delays", count, codes(delays)) if delays is not None else ()
+
     def replies(self, mems, delays, cycles):
         """The reply bits of each cycle, as numbers."""
-        count = sum(it.delayed for it in items(mems))
-        rows = self.read("pdl_image.Delays.delays", count, codes(delays)) if delays is not None else ()
+        rows = self.delay_rows(mems, delays)
         return [self.call("pdl_image.Delays.bits_in", rows, cycle) for cycle in range(1, cycles + 1)]
 
     def run(self, command, words):
@@ -231,7 +235,7 @@ class Answers:
         (text, image), (count,), delays = self.taken(words, 2, 1)
         netlist = self.netlist(text)
         given = self.read("pdl_image.Images.image", netlist.mems, codes(image))
-        replies = linked(self.replies(netlist.mems, delays, count))
+        replies = self.call("pdl_netrun_lines.Printed.schedule", self.delay_rows(netlist.mems, delays), count)
         return string(self.call("pdl_netrun_lines.Printed.run_text", netlist, given, replies))
 
     # Tables

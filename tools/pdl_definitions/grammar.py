@@ -11,6 +11,8 @@ from .reader import Reader
 from .writer import Writer
 
 PLACE = "pdl_syntax_grammar", "Grammar"
+# A value for a name that no token binds, of which the definitions say that it may be any.
+ANY = {"Word": library.Record(text=(), span=library.Record(start=0, end=0, line=0)), "ℕ": 0, "Option ℕ": library.NOTHING}
 FINITE = {"Kind": [Made("R"), Made("W")], "LockKind": [Made("Queue"), Made("Bypass"), Made("Rename")], "Bool": [True, False]}
 
 
@@ -19,7 +21,7 @@ class Rule:
     __slots__ = "key", "symbols", "value", "known", "source"
 
     def __init__(self, key, symbols, value, known, source):
-        """The key of the relation, the symbols that stand for it, how its value is found from what these bind, and its constructor."""
+        """The key of the relation, the symbols that stand for it, how its value is found from what these bind; its constructor."""
         self.key, self.symbols, self.value, self.known, self.source = key, symbols, value, known, source
 
 
@@ -74,7 +76,8 @@ class Grammar:
 
     def others(self, grammar):
         """The constructors that are others in another grammar."""
-        return {(name, k) for name, made in self.made.items() for k, it in enumerate(made) if [it] != grammar.made[name][k : k + 1]}
+        return {(name, k) for name, made in self.made.items() for k, it in enumerate(made)
+                if [it] != grammar.made[name][k : k + 1]}
 
     def evaluate(self, tree, known):
         """The value of a tree, where names have these values."""
@@ -104,6 +107,7 @@ class Grammar:
             known = self.fixed(conclusion[2][: len(key) - 1], key[1:], known)
             if known is not None:
                 asked = [it for it in premises if not isinstance(it, str)]
+                known = {name: ANY[kind] for name, kind in told.items() if kind in ANY} | known
                 symbols = self.symbols(conclusion[2][-2], conclusion[2][-1], asked, known)
                 names = set(known) | set(told)
                 found.append(Rule(key, symbols, self.compiled(conclusion[2][-3], names), known, (key[0], number)))
@@ -198,7 +202,10 @@ class Parser:
         self.grammar, self.key, self.read, self.columns = grammar, None, [], []
 
     def parse(self, key, tokens):
-        """The value of a relation for all tokens; `Misplaced` where no text begins so. What was read before is kept as far as it goes."""
+        """The value of a relation for all tokens; `Misplaced` where no text begins so.
+
+        What was read before is kept as far as it is the same.
+        """
         self.begin(key)
         same = next((k for k, (old, new) in enumerate(zip(self.read, tokens)) if old != new), min(len(self.read), len(tokens)))
         self.read, self.columns = self.read[:same], self.columns[: same + 1]

@@ -154,13 +154,14 @@ class Noticed:
 
     def by_form(self, rows):
         """What notices other forms: the rows are asked whose text has another form, or is refused otherwise."""
-        begun = spent()
+        begun, twice = spent(), None
         for it in rows:
             try:
                 if self.outcome(it.form) == self.outcomes[it.form]:
                     continue
             except grammar.Ambiguous:
-                return "two trees: " + it.row.place
+                twice = twice or f"two trees: {it.row.place}"
+                continue
             except (TooLong, IndexError):
                 return it.row.place
             except ILL as why:
@@ -168,7 +169,7 @@ class Noticed:
             found = self.by_row([it])
             if found or spent() - begun > MOST_TOGETHER:
                 return found or "no row in time"
-        return None
+        return twice
 
     def outcome(self, form):
         """The form of a text, or why it has none."""
