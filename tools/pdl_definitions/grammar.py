@@ -4,6 +4,7 @@ A constructor is a rule: the tokens of its row, and between them the relations o
 """
 
 import re
+from itertools import product
 
 from . import lexer, library
 from .library import Made
@@ -115,15 +116,17 @@ class Grammar:
 
     def choices(self, told, premises):
         """What the names of small types, and those of an equation, may be."""
-        choices = [{}]
-        for name, kind in told.items():
-            if kind in FINITE:
-                choices = [{**it, name: value} for it in choices for value in FINITE[kind]]
-        for _ in [it for it in premises if isinstance(it, str)]:
-            operator_of = self.all[*PLACE, "operator_of"]
-            pairs = [(mark, operator_of(mark)) for mark in self.marks()]
-            choices = [{**it, "m": mark, "op": op.parts[0]} for it in choices for mark, op in pairs if op.name == "Some"]
+        small = [(name, FINITE[kind]) for name, kind in told.items() if kind in FINITE]
+        choices = [dict(zip([name for name, _ in small], values)) for values in product(*[values for _, values in small])]
+        if any(isinstance(it, str) for it in premises):
+            choices = [{**it, "m": mark, "op": op} for it in choices for mark, op in self.operators()]
         return choices
+
+    def operators(self):
+        """The marks of operators, each with its operator."""
+        operator_of = self.all[*PLACE, "operator_of"]
+        pairs = [(mark, operator_of(mark)) for mark in self.marks()]
+        return [(mark, op.parts[0]) for mark, op in pairs if op.name == "Some"]
 
     def marks(self):
         tokens = "pdl_syntax_tokens", "Tokens"
@@ -272,10 +275,14 @@ class Column:
     def close(self, columns, here):
         """Goes on with rules until nothing is added."""
         while self.left or self.pending:
-            for rule in self.grammar.of(self.pending.pop()) if self.pending else []:
-                self.add(rule, 0, here, rule.known)
-            if self.left and not self.pending:
+            if self.pending:
+                self.add_all(self.grammar.of(self.pending.pop()), here)
+            else:
                 self.go_on(columns, here, *self.left.pop())
+
+    def add_all(self, rules, here):
+        for rule in rules:
+            self.add(rule, 0, here, rule.known)
 
     def go_on(self, columns, here, rule, dot, start):
         known = self.items[rule, dot, start]
