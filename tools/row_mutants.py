@@ -5,10 +5,11 @@
 
 FILE is a file of the crate's specs/, as pdl_image:Images. The definitions are made Python functions (tools/pdl_definitions),
 and answer the rows of tests/, of these files of it where they are named. What tools/definition_mutants.py makes of each line
-of a clause is put in the place of that line, and so is the answer of the clause beside it. A change is noticed where a row that calls the
-function is answered otherwise. The others are printed: definition and program could be wrong alike there without notice, or the
-line means the same. Those that do, with their reasons, are in tools/pdl_definitions/alike.py, and aren't printed. A change by
-which a value has another type, or that isn't read, is ill-formed. The last line of a file has the numbers.
+of a clause is put in the place of that line, and so is the answer of the clause beside it. A change is noticed where a row
+that calls the function is answered otherwise. The others are printed: definition and program could be wrong alike there
+without notice, or the line means the same. Those that do, with their reasons, are in tools/pdl_definitions/alike.py, and
+aren't printed. A change by which a value has another type, or that isn't read, is ill-formed. One by which a row's text has
+two trees, and that no other row notices, is told as that. The last line of a file has the numbers.
 """
 
 import collections
@@ -51,7 +52,8 @@ def relation_changes(text):
     for number, row in enumerate(text.split("\n")):
         inside = inside and (row.startswith(" ") or not row) or " data " in f" {row} "
         if inside and not row.strip().startswith("--"):
-            yield from ((with_line(text, number, other), row.strip(), other.strip()) for other in definition_mutants.token_mutants(row))
+            others = definition_mutants.token_mutants(row)
+            yield from ((with_line(text, number, other), row.strip(), other.strip()) for other in others)
 
 
 def kind_of(by):

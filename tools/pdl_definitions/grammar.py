@@ -22,7 +22,7 @@ class Rule:
     __slots__ = "key", "symbols", "value", "known", "source"
 
     def __init__(self, key, symbols, value, known, source):
-        """The key of the relation, the symbols that stand for it, how its value is found from what these bind; its constructor."""
+        """The relation's key, the symbols that stand for it, how its value is found from what these bind; its constructor."""
         self.key, self.symbols, self.value, self.known, self.source = key, symbols, value, known, source
 
 
