@@ -4,11 +4,12 @@
     row_mutants.py [--tests NAME,..] [--only WORD] CRATE:FILE..
 
 FILE is a file of the crate's specs/, as pdl_image:Images. The definitions are made Python functions (tools/pdl_definitions),
-and answer the rows of tests/, of these files of it where they are named. What tools/definition_mutants.py makes of each line of a clause
-is put in the place of that line, and so is the answer of the clause beside it. A change is noticed where a row that calls the
-function is answered otherwise. The others are printed: definition and program could be wrong alike there without notice, or the
-line means the same. Those that do, with their reasons, are in tools/pdl_definitions/alike.py, and aren't printed. A change by
-which a value has another type, or that isn't read, is ill-formed. The last line of a file has the numbers.
+and answer the rows of tests/, of these files of it where they are named. What tools/definition_mutants.py makes of each line
+of a clause is put in the place of that line, and so is the answer of the clause beside it. A change is noticed where a row
+that calls the function is answered otherwise. The others are printed: definition and program could be wrong alike there
+without notice, or the line means the same. Those that do, with their reasons, are in tools/pdl_definitions/alike.py, and
+aren't printed. A change by which a value has another type, or that isn't read, is ill-formed. One by which a row's text has
+two trees, and that no other row notices, is told as that. The last line of a file has the numbers.
 """
 
 import collections
@@ -23,12 +24,16 @@ from pdl_definitions.lexer import Function
 def changes(it):
     """The functions that differ from one in a line of a clause, each with that line, old and new."""
     for place, (text, inside) in enumerate(it.clauses):
-        lines = text.split("\n")
-        for number, line in enumerate(lines):
+        for number, line in enumerate(text.split("\n")):
             for other in dict.fromkeys(definition_mutants.mutants(line) + beside(it, place, line)):
-                changed = "\n".join([*lines[:number], other, *lines[number + 1 :]])
-                clauses = [*it.clauses[:place], (changed, inside), *it.clauses[place + 1 :]]
+                clauses = [*it.clauses[:place], (with_line(text, number, other), inside), *it.clauses[place + 1 :]]
                 yield Function(it.name, it.type, clauses), line.strip(), other.strip()
+
+
+def with_line(text, number, line):
+    """A text with another line in the place of the one of this number."""
+    lines = text.split("\n")
+    return "\n".join([*lines[:number], line, *lines[number + 1 :]])
 
 
 def beside(it, place, line):
@@ -43,13 +48,12 @@ def beside(it, place, line):
 
 def relation_changes(text):
     """The texts of the grammar that differ in one token of a constructor, each with the line, old and new."""
-    rows_ = text.split("\n")
     inside = False
-    for number, row in enumerate(rows_):
+    for number, row in enumerate(text.split("\n")):
         inside = inside and (row.startswith(" ") or not row) or " data " in f" {row} "
         if inside and not row.strip().startswith("--"):
-            for other in definition_mutants.token_mutants(row):
-                yield "\n".join([*rows_[:number], other, *rows_[number + 1 :]]), row.strip(), other.strip()
+            others = definition_mutants.token_mutants(row)
+            yield from ((with_line(text, number, other), row.strip(), other.strip()) for other in others)
 
 
 def kind_of(by):
@@ -92,24 +96,30 @@ def tried(asked, place, only):
     return found
 
 
-def main():
-    usage.helps(__doc__)
+def asked_words():
+    """The words of the call, of which each names something that is there."""
     words = usage.Words()
     words.add_argument("place", nargs="+")
     words.add_argument("--tests", default="")
     words.add_argument("--only", default="")
     it = words.parse_args()
-    names = [*filter(None, it.tests.split(","))]
-    for name in names:
-        if not (definitions.TOP / "tests" / name).is_file():
-            usage.ends(f"`{name}` is no file of tests/")
+    it.tests = [*filter(None, it.tests.split(","))]
+    missing = next((name for name in it.tests if not (definitions.TOP / "tests" / name).is_file()), None)
+    if missing:
+        usage.ends(f"`{missing}` is no file of tests/")
     for place in it.place:
         crate, _, file = place.partition(":")
         if not (definitions.TOP / f"crates/{crate}/specs/{file}.antt").is_file() or crate not in answers.CRATES:
             usage.ends(f"`{place}` is no CRATE:FILE of definitions that answer rows")
+    return it
+
+
+def main():
+    usage.helps(__doc__)
+    it = asked_words()
     grammar_text = (definitions.TOP / "crates/pdl_syntax_grammar/specs/Grammar.antt").read_text()
     all_definitions = loaded.Definitions(answers.CRATES)
-    asked = noticed.Noticed(answers.Answers(all_definitions, grammar_text), rows.rows_of(names))
+    asked = noticed.Noticed(answers.Answers(all_definitions, grammar_text), rows.rows_of(it.tests))
     print(f"{len(asked.known)} rows are answered right, {len(asked.wrong)} otherwise, {len(asked.slow)} not in time", flush=True)
     for place in it.place:
         print(f"==== {place}", flush=True)

@@ -33,8 +33,9 @@ class Answers:
     def __init__(self, all_definitions, grammar_text):
         self.all = all_definitions
         self.grammar, self.grammar_text = grammar.Grammar(all_definitions, grammar_text), grammar_text
+        self.parser = grammar.Parser(self.grammar)
         # What was found before, with the functions that it took; and the name of the function that is another now.
-        self.found, self.trees, self.changed = {}, {}, None
+        self.found, self.given_before, self.changed = {}, {}, None
 
     def remembered(self, key, make, *given):
         """What is made, or was made before without a function that is another now; so of a refusal."""
@@ -88,41 +89,50 @@ class Answers:
             raise Silent
         return [text for _, text in words[:files]], [int(text) for _, text in words[files:]], delays[0][1] if delays else None
 
+    def found_from(self, kind, text, given, make):
+        """What is made of something given that a text has, or what was made of it before, where it's the same now."""
+        known = self.given_before.setdefault((kind, text), given)
+        if given is known or given == known:
+            return self.remembered((kind, text), make, text, known)
+        return make(text, given)
+
     # Sources
 
     def pipe(self, source):
         """The pipe of a source that breaks no rule."""
-        tree = self.remembered(("tree", source), self.tree, source)
-        known = self.trees.setdefault(source, tree)
-        if tree is known or tree == known:
-            return self.remembered(("pipe", source), self.judged, source, known)
-        return self.judged(source, tree)
+        return self.found_from("pipe", source, self.tree(source), self.judged)
 
     def tree(self, source):
         """The pipe of a text in the grammar."""
+        tokens = self.remembered(("tokens", source), self.tokens, source)
+        wrong = self.found_from("limits", source, tokens, self.past_limits)
+        return self.found_from("tree", source, (tokens, wrong), self.parsed)
+
+    def tokens(self, source):
+        return list(items(self.call("pdl_syntax_tokens.Tokens.tokens", codes(source))))
+
+    def parsed(self, source, given):
+        """The pipe of tokens in the grammar, of which the one of a number, if there is any, is past a limit."""
+        tokens, wrong = given
         self.all.seen.add("grammar")
-        text = codes(source)
-        tokens = list(items(self.call("pdl_syntax_tokens.Tokens.tokens", text)))
-        wrong = self.past_limits(tokens)
         try:
-            pipe = grammar.Parser(self.grammar).parse(("Text",), tokens[:wrong])
+            pipe = self.parser.parse(("Text",), tokens[:wrong])
         except grammar.Misplaced as at:
             wrong = at.args[0]
         if wrong is not None:
-            last = self.call("pdl_syntax_tokens.Tokens.last_line", text)
+            last = self.call("pdl_syntax_tokens.Tokens.last_line", codes(source))
             raise Refused(f"G1 line {self.call('pdl_syntax_grammar.Text.line_of', linked(tokens[wrong:]), last)}")
         return pipe
 
     def judged(self, source, pipe):
         """The pipe where it breaks no rule."""
-        self.all.seen.add("grammar")
         text = codes(source)
         refusal = self.call("pdl_rules.Refusal.refusal", text, pipe)
         if refusal.name == "Some":
             raise Refused(f"{refusal.parts[0].rule.name} line {refusal.parts[0].line}")
         return pipe
 
-    def past_limits(self, tokens):
+    def past_limits(self, source, tokens):
         """The number of the first token that is past a limit, if there is one."""
         place = "pdl_syntax_cursor.Limits."
         counts = self.all["pdl_syntax_cursor", "Limits", "at_start"]()
@@ -149,10 +159,14 @@ class Answers:
             raise Refused(f"{rule.name} {at} {line}")
         return result.parts[0]
 
+    def delay_rows(self, mems, delays):
+        """The rows of a delay file, none where there is no such file."""
+        count = sum(it.delayed for it in items(mems))
+        return self.read("pdl_image.Delays.delays", count, codes(delays)) if delays is not None else ()
+
     def replies(self, mems, delays, cycles):
         """The reply bits of each cycle, as numbers."""
-        count = sum(it.delayed for it in items(mems))
-        rows = self.read("pdl_image.Delays.delays", count, codes(delays)) if delays is not None else ()
+        rows = self.delay_rows(mems, delays)
         return [self.call("pdl_image.Delays.bits_in", rows, cycle) for cycle in range(1, cycles + 1)]
 
     def run(self, command, words):
@@ -171,31 +185,38 @@ class Answers:
 
     def netlist(self, text):
         """The netlist of a text that breaks no rule."""
-        return self.remembered(("netlist", text), lambda: self.wired(self.remembered(("file", text), self.file, text)))
+        return self.found_from("netlist", text, self.file(text), self.wired)
 
     def file(self, text):
         """What a text in the grammar declares."""
-        place = "pdl_vread_text."
-        tokens = list(items(self.call(place + "Tokens.tokens", codes(text))))
+        tokens = self.remembered(("words", text), lambda: list(items(self.call("pdl_vread_text.Tokens.tokens", codes(text)))))
+        return self.found_from("file", text, tokens, self.declared)
+
+    def declared(self, text, tokens):
+        """What these tokens declare."""
         taken, part, at = [], library.Made("Start"), 0
         while part.name != "Finished" or at < len(tokens):
-            rule = self.call(place + "Grammar.chosen", part, tokens[at].text) if at < len(tokens) else library.NOTHING
-            if rule.name == "None":
+            rule, end = self.rule_at(text, part, tokens, at)
+            taken.append(Record(rule=rule, found=linked(tokens[at:end])))
+            part, at = self.call("pdl_vread_text.Grammar.next", rule), end
+        return self.call("pdl_vread_text.Drafts.file_of", linked(taken))
+
+    def rule_at(self, text, part, tokens, at):
+        """The rule that comes at a part, and the place after its tokens."""
+        rule = self.call("pdl_vread_text.Grammar.chosen", part, tokens[at].text) if at < len(tokens) else library.NOTHING
+        if rule.name == "None":
+            self.misplaced(text, tokens, at)
+        for field in items(self.call("pdl_vread_text.Grammar.fields", *rule.parts)):
+            if at == len(tokens) or not self.call("pdl_vread_text.Grammar.fits", field, tokens[at].text):
                 self.misplaced(text, tokens, at)
-            fields = list(items(self.call(place + "Grammar.fields", *rule.parts)))
-            for field in fields:
-                if at == len(tokens) or not self.call(place + "Grammar.fits", field, tokens[at].text):
-                    self.misplaced(text, tokens, at)
-                at += 1
-            taken.append(Record(rule=rule.parts[0], found=linked(tokens[at - len(fields) : at])))
-            part = self.call(place + "Grammar.next", rule.parts[0])
-        return self.call(place + "Drafts.file_of", linked(taken))
+            at += 1
+        return rule.parts[0], at
 
     def misplaced(self, text, tokens, at):
         last = self.call("pdl_vread_text.Tokens.last_line", codes(text))
         raise Refused(f"V1 line {self.call('pdl_vread_text.Text.line_of', linked(tokens[at:]), last)}")
 
-    def wired(self, file):
+    def wired(self, text, file):
         """The netlist of a file."""
         wiring = self.call("pdl_vread_nets.Wired.wiring", file)
         if wiring.name == "Err":
@@ -214,7 +235,7 @@ class Answers:
         (text, image), (count,), delays = self.taken(words, 2, 1)
         netlist = self.netlist(text)
         given = self.read("pdl_image.Images.image", netlist.mems, codes(image))
-        replies = linked(self.replies(netlist.mems, delays, count))
+        replies = self.call("pdl_netrun_lines.Printed.schedule", self.delay_rows(netlist.mems, delays), count)
         return string(self.call("pdl_netrun_lines.Printed.run_text", netlist, given, replies))
 
     # Tables

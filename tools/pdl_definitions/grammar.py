@@ -4,7 +4,7 @@ A constructor is a rule: the tokens of its row, and between them the relations o
 """
 
 import re
-from typing import NamedTuple
+from itertools import product
 
 from . import lexer, library
 from .library import Made
@@ -12,15 +12,18 @@ from .reader import Reader
 from .writer import Writer
 
 PLACE = "pdl_syntax_grammar", "Grammar"
+# A value for a name that no token binds, of which the definitions say that it may be any.
+ANY = {"Word": library.Record(text=(), span=library.Record(start=0, end=0, line=0)), "ℕ": 0, "Option ℕ": library.NOTHING}
 FINITE = {"Kind": [Made("R"), Made("W")], "LockKind": [Made("Queue"), Made("Bypass"), Made("Rename")], "Bool": [True, False]}
 
 
-class Rule(NamedTuple):
-    """The key of a relation, the symbols that stand for it, and how its value is found from what these bind."""
-    key: tuple
-    symbols: list
-    value: object
-    known: dict
+class Rule:
+    """What a constructor says for fixed arguments of its relation."""
+    __slots__ = "key", "symbols", "value", "known", "source"
+
+    def __init__(self, key, symbols, value, known, source):
+        """The relation's key, the symbols that stand for it, how its value is found from what these bind; its constructor."""
+        self.key, self.symbols, self.value, self.known, self.source = key, symbols, value, known, source
 
 
 def constructors(text):
@@ -72,6 +75,11 @@ class Grammar:
         for relation, it in constructors(text):
             self.made.setdefault(relation, []).append(binders(it))
 
+    def others(self, grammar):
+        """The constructors that are others in another grammar."""
+        return {(name, k) for name, made in self.made.items() for k, it in enumerate(made)
+                if [it] != grammar.made[name][k : k + 1]}
+
     def evaluate(self, tree, known):
         """The value of a tree, where names have these values."""
         writer = Writer(lambda name: self.all.find(PLACE, name), self.all.facts)
@@ -86,35 +94,39 @@ class Grammar:
     def of(self, key):
         """The rules of a relation with its fixed arguments."""
         if key not in self.rules:
-            self.rules[key] = []
-            for told, text in self.made[key[0]]:
-                self.rules[key] += self.rules_of(key, told, text)
+            self.rules[key] = [rule for number in range(len(self.made[key[0]])) for rule in self.rules_of(key, number)]
         return self.rules[key]
 
-    def rules_of(self, key, told, text):
-        """The rules of one constructor for these arguments."""
+    def rules_of(self, key, number):
+        """The rules of one constructor, the one of this number, for these arguments."""
+        told, text = self.made[key[0]][number]
         *premises, conclusion = [Reader(part).joined(1) if "≡" not in part else part for part in outside(text, "→")]
+        if conclusion[1][1] != key[0]:
+            raise lexer.Unreadable(f"{conclusion[1][1]} as a constructor of {key[0]}")
         found = []
         for known in self.choices(told, premises):
             known = self.fixed(conclusion[2][: len(key) - 1], key[1:], known)
             if known is not None:
                 asked = [it for it in premises if not isinstance(it, str)]
+                known = {name: ANY[kind] for name, kind in told.items() if kind in ANY} | known
                 symbols = self.symbols(conclusion[2][-2], conclusion[2][-1], asked, known)
                 names = set(known) | set(told)
-                found.append(Rule(key, symbols, self.compiled(conclusion[2][-3], names), known))
+                found.append(Rule(key, symbols, self.compiled(conclusion[2][-3], names), known, (key[0], number)))
         return found
 
     def choices(self, told, premises):
         """What the names of small types, and those of an equation, may be."""
-        choices = [{}]
-        for name, kind in told.items():
-            if kind in FINITE:
-                choices = [{**it, name: value} for it in choices for value in FINITE[kind]]
-        for _ in [it for it in premises if isinstance(it, str)]:
-            operator_of = self.all[*PLACE, "operator_of"]
-            pairs = [(mark, operator_of(mark)) for mark in self.marks()]
-            choices = [{**it, "m": mark, "op": op.parts[0]} for it in choices for mark, op in pairs if op.name == "Some"]
+        small = [(name, FINITE[kind]) for name, kind in told.items() if kind in FINITE]
+        choices = [dict(zip([name for name, _ in small], values)) for values in product(*[values for _, values in small])]
+        if any(isinstance(it, str) for it in premises):
+            choices = [{**it, "m": mark, "op": op} for it in choices for mark, op in self.operators()]
         return choices
+
+    def operators(self):
+        """The marks of operators, each with its operator."""
+        operator_of = self.all[*PLACE, "operator_of"]
+        pairs = [(mark, operator_of(mark)) for mark in self.marks()]
+        return [(mark, op.parts[0]) for mark, op in pairs if op.name == "Some"]
 
     def marks(self):
         tokens = "pdl_syntax_tokens", "Tokens"
@@ -182,31 +194,55 @@ class Misplaced(Exception):
     """The number of the first token out of place."""
 
 
+class Ambiguous(Exception):
+    """Some tokens are two values of a relation."""
+
+
 class Parser:
     """Reads tokens by a grammar: its state is, for each token, the rules that are read so far."""
 
     def __init__(self, grammar):
-        self.grammar = grammar
+        self.grammar, self.key, self.read, self.columns = grammar, None, [], []
 
     def parse(self, key, tokens):
-        """The value of a relation for all tokens; `Misplaced` where no text begins so."""
-        columns = [Column(self.grammar)]
-        columns[0].begin(key)
-        columns[0].close(columns, 0)
-        for number, token in enumerate(tokens):
-            column = Column(self.grammar)
-            columns.append(column)
-            for (rule, dot, start), known in list(columns[-2].items.items()):
-                if dot < len(rule.symbols) and rule.symbols[dot][0] == "token":
-                    more = read_token(rule.symbols[dot], token)
-                    if more is not None:
-                        column.add(rule, dot + 1, start, {**known, **more})
-            if not column.items:
-                raise Misplaced(number)
-            column.close(columns, number + 1)
-        if (key, 0) not in columns[-1].done:
+        """The value of a relation for all tokens; `Misplaced` where no text begins so.
+
+        What was read before is kept as far as it is the same.
+        """
+        self.begin(key)
+        same = next((k for k, (old, new) in enumerate(zip(self.read, tokens)) if old != new), min(len(self.read), len(tokens)))
+        self.read, self.columns = self.read[:same], self.columns[: same + 1]
+        for token in tokens[same:]:
+            self.go_on(token)
+        if (key, 0) not in self.columns[-1].done:
             raise Misplaced(len(tokens))
-        return columns[-1].done[key, 0]
+        if any(column.twice for column in self.columns):
+            raise Ambiguous
+        return self.columns[-1].done[key, 0]
+
+    def begin(self, key):
+        if key != self.key:
+            self.key, self.read, self.columns = key, [], [Column(self.grammar)]
+            self.columns[0].begin(key)
+            self.columns[0].close(self.columns, 0)
+
+    def go_on(self, token):
+        """Reads a token more."""
+        column = Column(self.grammar)
+        for (rule, dot, start), known in self.columns[-1].items.items():
+            if dot < len(rule.symbols) and rule.symbols[dot][0] == "token":
+                more = read_token(rule.symbols[dot], token)
+                if more is not None:
+                    column.add(rule, dot + 1, start, {**known, **more})
+        if not column.items:
+            raise Misplaced(len(self.read))
+        self.columns.append(column)
+        column.close(self.columns, len(self.read) + 1)
+        self.read.append(token)
+
+    def used(self):
+        """The constructors that end somewhere in what was read."""
+        return frozenset(source for column in self.columns for source in column.used)
 
 
 def read_token(symbol, token):
@@ -218,15 +254,15 @@ def read_token(symbol, token):
 
 
 
-
 class Column:
     """The rules that are read up to a token, each with the place where it began, and the relations that end there."""
 
     def __init__(self, grammar):
         self.grammar, self.items, self.left, self.done, self.begun, self.waiting = grammar, {}, [], {}, set(), {}
+        self.pending, self.used, self.twice = [], set(), False
 
     def add(self, rule, dot, start, known):
-        key = ByIdentity(rule), dot, start
+        key = rule, dot, start
         if key not in self.items:
             self.items[key] = known
             self.left.append(key)
@@ -234,48 +270,38 @@ class Column:
     def begin(self, key):
         if key not in self.begun:
             self.begun.add(key)
-            self.grammar.of(key)
-            self.pending = [*getattr(self, "pending", []), key]
+            self.pending.append(key)
 
     def close(self, columns, here):
         """Goes on with rules until nothing is added."""
-        while self.left or getattr(self, "pending", []):
-            for key in self.__dict__.pop("pending", []):
-                for rule in self.grammar.of(key):
-                    self.add(rule, 0, here, rule.known)
-            if self.left:
+        while self.left or self.pending:
+            if self.pending:
+                self.add_all(self.grammar.of(self.pending.pop()), here)
+            else:
                 self.go_on(columns, here, *self.left.pop())
+
+    def add_all(self, rules, here):
+        for rule in rules:
+            self.add(rule, 0, here, rule.known)
 
     def go_on(self, columns, here, rule, dot, start):
         known = self.items[rule, dot, start]
         if dot == len(rule.symbols):
             self.end(columns, rule, start, rule.value(known))
+            self.used.add(rule.source)
         elif rule.symbols[dot][0] == "relation":
             _, key, name = rule.symbols[dot]
             self.waiting.setdefault(key, []).append((rule, dot, start))
             self.begin(key)
             if (key, here) in self.done:
-                self.add(rule.rule, dot + 1, start, {**known, name: self.done[key, here]})
+                self.add(rule, dot + 1, start, {**known, name: self.done[key, here]})
 
     def end(self, columns, rule, start, value):
         if (rule.key, start) in self.done:
+            self.twice = self.twice or self.done[rule.key, start] != value
             return
         self.done[rule.key, start] = value
         column = columns[start]
         for waits, dot, begun in list(column.waiting.get(rule.key, [])):
             known = column.items[waits, dot, begun]
-            self.add(waits.rule, dot + 1, begun, {**known, waits.symbols[dot][2]: value})
-
-
-class ByIdentity:
-    """A rule as a key."""
-    __slots__ = "rule", "symbols", "key", "value"
-
-    def __init__(self, rule):
-        self.rule, self.symbols, self.key, self.value = rule, rule.symbols, rule.key, rule.value
-
-    def __hash__(self):
-        return id(self.rule)
-
-    def __eq__(self, other):
-        return self.rule is other.rule
+            self.add(waits, dot + 1, begun, {**known, waits.symbols[dot][2]: value})

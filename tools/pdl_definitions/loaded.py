@@ -42,8 +42,15 @@ class Definitions:
         self.seen = set()
         self.space |= {"TEXTS": Texts(), "SEEN": self.seen}
         for crate in crates:
-            for path in sorted((definitions.TOP / "crates" / crate / "specs").glob("*.antt")):
-                self.add(crate, path.stem, path.read_text())
+            self.add_crate(crate)
+        self.define_all()
+
+    def add_crate(self, crate):
+        for path in sorted((definitions.TOP / "crates" / crate / "specs").glob("*.antt")):
+            self.add(crate, path.stem, path.read_text())
+
+    def define_all(self):
+        """Makes each function whose names are all there."""
         for key in self.read:
             try:
                 self.define(key)

@@ -3,8 +3,8 @@
 from .lexer import Token, Unreadable, tokens
 
 # How tightly signs bind, and which group to the right.
-TIGHT = {"||": 1, "&&": 2, "==": 4, "<": 4, "≤": 4, "∷": 5, "++": 5, "+": 6, "-": 6, "+ℤ": 6, "-ℤ": 6, "*": 7, "/": 7, "%": 7,
-         "^": 8}
+TIGHT = {"||": 1, "&&": 2, "==": 4, "<": 4, "≤": 4, "∷": 5, "++": 5,
+         "+": 6, "-": 6, "+ℤ": 6, "-ℤ": 6, "*": 7, "/": 7, "%": 7, "^": 8}
 TO_RIGHT = {"∷", "++", "&&", "||", "^"}
 ATOMS = {"name", "number", "text", "[]", "("}
 

@@ -58,28 +58,31 @@ class Writer:
         arguments = [f"a{k}" for k in range(len(clauses[0][0]))]
         self.put(f"def {name}({', '.join(arguments)}):")
         self.put(f"    SEEN.add({name!r})")
-        for patterns, body, inside in clauses:
-            self.depth += 1
-            before, own = self.depth, {}
-            for k, pattern in enumerate(patterns):
-                self.match(pattern, f"now(a{k})" if k in late else f"a{k}", own)
-            for local, local_clauses in inside:
-                own[local] = plain(f"w_{local}")
-                self.local(own, own[local], local_clauses)
-            self.put(f"return {self.write(body, own)}")
-            self.depth = before - 1
+        for clause in clauses:
+            self.clause([f"now({it})" if k in late else it for k, it in enumerate(arguments)], *clause, {})
         self.put(f"    raise TypeError('no clause of {name}')")
+
+    def clause(self, values, patterns, body, inside, own):
+        """A clause for these values, with the functions of its `where`."""
+        self.depth += 1
+        before = self.depth
+        for pattern, value in zip(patterns, values):
+            self.match(pattern, value, own)
+        self.where(inside, own)
+        self.put(f"return {self.write(body, own)}")
+        self.depth = before - 1
+
+    def where(self, inside, own):
+        for name, clauses in inside:
+            own[name] = plain(f"w_{name}")
+            self.local(own, own[name], clauses)
 
     def local(self, own, name, clauses):
         """A function of a `where`."""
-        self.put(f"def {name}({', '.join(f'b{k}' for k in range(len(clauses[0][0])))}):")
+        arguments = [f"b{k}" for k in range(len(clauses[0][0]))]
+        self.put(f"def {name}({', '.join(arguments)}):")
         for patterns, body in clauses:
-            self.depth += 1
-            before, inner = self.depth, dict(own)
-            for k, pattern in enumerate(patterns):
-                self.match(pattern, f"b{k}", inner)
-            self.put(f"return {self.write(body, inner)}")
-            self.depth = before - 1
+            self.clause(arguments, patterns, body, [], dict(own))
 
     # Patterns
 
