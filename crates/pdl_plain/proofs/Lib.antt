@@ -14,3 +14,8 @@ pub mod ItemTokens
 pub mod TableRests
 pub mod TableTexts
 pub mod BothWays
+pub mod WordSteps
+pub mod CommandStarts
+pub mod ShortCommands
+pub mod RunCommands
+pub mod UndashedLines

@@ -4,3 +4,4 @@ pub mod HeldLocations
 pub mod StagesByText
 pub mod LetterPlaces
 pub mod NetlistTexts
+pub mod CommandLines

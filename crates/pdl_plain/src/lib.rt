@@ -9,6 +9,7 @@ ghost use Rattle.pdl_plain.specs.HeldLocations.{HoldsBefore, MarksBlocks};
 ghost use Rattle.pdl_plain.specs.StagesByText.{BeginsLast, BeginsNext};
 ghost use Rattle.pdl_plain.specs.LetterPlaces.{HasEachLetter};
 ghost use Rattle.pdl_plain.specs.NetlistTexts.{ReadsFile, ReadsOnly};
+ghost use Rattle.pdl_plain.specs.CommandLines.{ReadsUndashed};
 
 /// Signed words are whole numbers: `lts` compares these, and `sext` is the wider word of the same number.
 pub fn signed_words()
@@ -42,4 +43,9 @@ pub fn letter_places()
 pub fn netlist_texts()
     ensures reads { ReadsFile }
     ensures only { ReadsOnly }
+{}
+
+/// Words none of which begins with `-` are a command by its name, how many words follow it, and their numbers.
+pub fn command_lines()
+    ensures undashed { ReadsUndashed }
 {}
